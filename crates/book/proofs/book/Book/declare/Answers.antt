@@ -1,0 +1,38 @@
+use mathlib.Core.Path.{_≡_, refl, sym, ap}
+use mathlib.Core.List.{List}
+use Prim.Native.Nat.{ℕ}
+use native.Mathlib.Omega.{arith}
+use Rattle.std.specs.Of.Vec.{vec-items}
+use Rattle.book.specs.Standing.{State, rulesOf}
+use Rattle.book.proofs.Holding.{names-long, names-push, room-for-name}
+use Rattle.book.proofs.book.Book.declare.Needs as need
+
+pub push-reserved-requires : need.push-reserved-requires
+push-reserved-requires g c κs =
+    let b = c .args .self .now in
+    let few = room-for-name (vec-items (b .names)) (rulesOf (vec-items (b .slots))) (c .args .name .now) (c .in-rest .ensures tt) in
+    let l = b .names .ok .0 in
+    omega (arith, b .room)
+
+pub ghost-self : need.ghost-self
+ghost-self g c =
+    let b = c .args .self .now in
+    let few = room-for-name (vec-items (b .names)) (rulesOf (vec-items (b .slots))) (c .args .name .now) (c .in-rest .ensures tt) in
+    let l = b .names .ok .0 in
+    let told = c .push-reserved .ensures in
+    (omega arith, (omega (arith, b .room), (b .eight, tt)))
+
+pub returns : need.returns
+returns g c =
+    let b = c .args .self .now in
+    let long = names-long (vec-items (b .names)) in
+    let l = b .names .ok .0 in
+    record {
+      declared = (
+        sym (c .in-rest .ensures tt),
+        omega arith,
+        ap (λ (ns : List (List ℕ)). record { names = ns; rules = rulesOf (vec-items (b .slots)) })
+            (names-push (vec-items (b .names)) _ (c .in-Ok .copy) (c .args .name .now) (c .push-reserved .ensures .items) (c .in-Ok .ensures tt .same)),
+      );
+      honest = λ _ _. refl;
+    }

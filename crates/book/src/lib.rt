@@ -1,0 +1,7 @@
+// The rule book: declared signals and eight slots for rules.
+mod book;
+mod declares;
+mod slot;
+
+pub use book::Book;
+pub use slot::Slot;

@@ -1,0 +1,7 @@
+// Examples of calls on a book, and of console lines.
+#[cfg(test)]
+mod declares;
+#[cfg(test)]
+mod lines;
+#[cfg(test)]
+mod memories;

@@ -1,0 +1,5 @@
+pub mod Lines
+pub mod Forms
+pub mod Answers
+pub mod Responses
+pub mod Listings

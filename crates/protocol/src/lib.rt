@@ -1,0 +1,17 @@
+// What the programs read and write: lines, what each asks for, and the bytes of each answer.
+mod answers;
+mod forms;
+mod input;
+mod responses;
+mod source;
+mod tokens;
+
+pub use answers::Answer;
+pub use answers::AnswerDisplay;
+pub use forms::Line;
+pub use forms::line_of;
+pub use input::Cut;
+pub use input::first_line;
+pub use responses::respond;
+pub use source::read_input;
+pub use tokens::listing;

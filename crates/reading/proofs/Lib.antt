@@ -1,0 +1,4 @@
+pub mod Whole
+pub mod Lexing
+pub mod Rows
+pub mod Looking

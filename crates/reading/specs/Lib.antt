@@ -1,0 +1,4 @@
+pub mod Tokens
+pub mod Front
+pub mod Rows
+pub mod Names
