@@ -1,3 +1,4 @@
 pub mod Names
+pub mod Rules
 pub mod Standing
 pub mod Calls

@@ -1,7 +1,10 @@
 // What a book holds, and what always holds of it.
 ghost use mathlib.Core.Path.{_≡_};
+ghost use mathlib.Core.Bool.{true};
 ghost use Prim.Native.Nat.{_≤_};
-ghost use Rattle.std.specs.Of.Vec.{vec-cap, vec-len};
+ghost use Rattle.std.specs.Of.Vec.{vec-cap, vec-items, vec-len};
+ghost use Rattle.logic.specs.Basics.{basics, below};
+ghost use Rattle.book.specs.Rules.{rulesOf, together};
 use super::slot::Slot;
 
 #[derive(Drop)]
@@ -11,4 +14,6 @@ pub struct Book {
     ghost few: { vec-len names ≤ 16 },
     ghost room: { 16 ≤ vec-cap names },
     ghost eight: { vec-len slots ≡ 8 },
+    ghost basic: { basics (together (rulesOf (vec-items slots))) ≤ 12 },
+    ghost known: { below (vec-len names) (together (rulesOf (vec-items slots))) ≡ true },
 }

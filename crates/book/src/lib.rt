@@ -1,5 +1,7 @@
 // The rule book: declared signals and eight slots for rules.
 mod book;
+mod fit;
+mod rules;
 mod declares;
 mod slot;
 

@@ -1,8 +1,10 @@
 -- The basics of rules: the signals that occur in them, and their operators that look ahead. Assumes nothing.
-use mathlib.Core.Bool.{Bool, true, false, _||_, cond}
+use mathlib.Core.Bool.{Bool, true, false, _&&_, _||_, cond}
 use mathlib.Core.List.{List, [], _∷_}
-use Prim.Native.Nat.{ℕ, zero, suc, _+_}
-use lib.Dec.{eqb}
+use Prim.Native.Nat.{ℕ, zero, suc, _+_, _-_}
+use lib.Dec.{eqb, leb, ltb}
+use Rattle.std.specs.declared.option.Option.{Option}
+use Rattle.std.specs.declared.option.Option.the-variants.{Some, None}
 use Rattle.logic.specs.Form.{Form, yes-form, no-form, signal, not-form, next-form, always, eventually, and-form, or-form, implies, until}
 
 -- the signal g occurs in the formula
@@ -33,10 +35,14 @@ ops (or-form f g) = ops f + ops g
 ops (implies f g) = ops f + ops g
 ops (until f g) = ops f + 1 + ops g
 
+-- how many numbers below n pass the test
+unfoldable pub tally : ℕ → (ℕ → Bool) → ℕ
+tally zero p = 0
+tally (suc n) p = tally n p + cond (p n) 1 0
+
 -- how many signals below g occur
-unfoldable pub rank : Form → ℕ → ℕ
-rank f zero = 0
-rank f (suc g) = rank f g + cond (occurs f g) 1 0
+abbrev pub rank : Form → ℕ → ℕ
+rank f g = tally g (occurs f)
 
 -- how many of the sixteen signals occur
 unfoldable pub signals : Form → ℕ
@@ -50,3 +56,26 @@ basics f = signals f + ops f
 abbrev pub all : List Form → Form
 all [] = yes-form
 all (r ∷ rs) = and-form r (all rs)
+
+-- every signal that occurs has a number below n
+abbrev pub below : ℕ → Form → Bool
+below n yes-form = true
+below n no-form = true
+below n (signal g) = ltb g n
+below n (not-form f) = below n f
+below n (next-form f) = below n f
+below n (always f) = below n f
+below n (eventually f) = below n f
+below n (and-form f g) = below n f && below n g
+below n (or-form f g) = below n f && below n g
+below n (implies f g) = below n f && below n g
+below n (until f g) = below n f && below n g
+
+-- what is left of a room once n have taken theirs, if they find it
+abbrev pub spent : ℕ → ℕ → Option ℕ
+spent n room = cond (leb n room) (Some (room - n)) None
+
+-- one less room, if there is one
+abbrev pub oneLess : Option ℕ → Option ℕ
+oneLess (Some left) = spent 1 left
+oneLess None = None

@@ -3,7 +3,7 @@ use mathlib.Core.Path.{_≡_, refl, sym, ap, subst, _∙_}
 use mathlib.Core.List.{List, [], _∷_}
 use mathlib.Core.Bool.{true, false}
 use lib.Dec.{ltb}
-use Rattle.std.proofs.shelf.Tests.{le-ltb, cond-true, cond-false, false≢true}
+use Rattle.std.proofs.shelf.Tests.{cond-true, cond-false, false≢true}
 use Rattle.std.proofs.shelf.Ways.{tells}
 use Prim.Native.Nat.{ℕ, _+_, _-_, _≤_, _<_}
 use native.Mathlib.Nat.{zero-add, sub-zero, add-comm}
@@ -30,14 +30,14 @@ no-arrow : (b : ℕ) (bs : List ℕ) → lowerByte b ≡ true → arrow b bs ≡
 no-arrow b [] e = refl
 no-arrow b (c ∷ cs) e = grind (arith, tells)
 
-pub worded : (s : List ℕ) (n : ℕ) (t : Tok) → lowerByte (getD s 0 0) ≡ true → n ≡ leading wordByte s → n ≤ 16 → t ≡ wordOf (take (n - 0) s) → some t n ≡ classify s
+pub worded : (s : List ℕ) (n : ℕ) (t : Tok) → lowerByte (getD s 0 0) ≡ true → n ≡ leading wordByte s → ltb 16 n ≡ false → t ≡ wordOf (take (n - 0) s) → some t n ≡ classify s
 worded [] n t e c l w = absurd (false≢true e)
 worded (b ∷ bs) n t e c l w =
     sym
     (cond-false (arrow b bs) _ _ (no-arrow b bs e)
     ∙ cond-true (lowerByte b) _ _ e
     ∙ ap (word (b ∷ bs)) (sym c)
-    ∙ cond-false (ltb 16 n) _ _ (le-ltb 16 n l)
+    ∙ cond-false (ltb 16 n) _ _ l
     ∙ ap (λ x. some x n) (ap (λ k. wordOf (take k (b ∷ bs))) (sym (sub-zero n)) ∙ sym w))
 
 -- `&s[0..n]` begins where `s` does

@@ -1,5 +1,6 @@
 // What stands at the front of a text.
 ghost use mathlib.Core.Path.{_≡_};
+ghost use lib.Dec.{ltb};
 ghost use lib.ListN.{length};
 ghost use Rattle.std.specs.shelf.Text.{sameBytes};
 ghost use Rattle.reading.specs.Tokens.{lowerByte, symbolOf, wordOf, tokOf, classify, TokenAt};
@@ -55,6 +56,12 @@ fn word_token<'a>(w: &'a [u8]) -> Token<'a>
     }
 }
 
+fn is_too_long(n: usize) -> bool
+    ensures { λ r. ⌜ r ≡ ltb 16 n ⌝ }
+{
+    n > LONGEST_WORD
+}
+
 fn begins_word(b: u8) -> bool
     ensures { λ r. ⌜ r ≡ lowerByte b ⌝ }
 {
@@ -80,7 +87,7 @@ pub(crate) fn at_front<'a>(tail: &'a [u8]) -> Front<'a>
         [b, ..] => {
             if begins_word(*b) {
                 let n = leading_of(&WordByte, tail);
-                if n > LONGEST_WORD {
+                if is_too_long(n) {
                     Front::Bad(WordCause::LongWord)
                 } else {
                     Front::Found(word_token(&tail[0..n]), n)

@@ -1,10 +1,14 @@
-use mathlib.Core.Path.{_≡_, refl, sym, ap}
+use mathlib.Core.Path.{_≡_, refl, sym, ap, subst}
+use mathlib.Core.Bool.{true}
 use mathlib.Core.List.{List}
 use Prim.Native.Nat.{ℕ}
 use native.Mathlib.Omega.{arith}
-use Rattle.std.specs.Of.Vec.{vec-items}
-use Rattle.book.specs.Standing.{State, rulesOf}
+use Rattle.std.specs.Of.Vec.{vec-items, vec-len}
+use Rattle.logic.specs.Basics.{below}
+use Rattle.book.specs.Rules.{rulesOf, together}
+use Rattle.book.specs.Standing.{State}
 use Rattle.book.proofs.Holding.{names-long, names-push, room-for-name}
+use Rattle.book.proofs.Sets.{below-more}
 use Rattle.book.proofs.book.Book.declare.Needs as need
 
 pub push-reserved-requires : need.push-reserved-requires
@@ -20,7 +24,9 @@ ghost-self g c =
     let few = room-for-name (vec-items (b .names)) (rulesOf (vec-items (b .slots))) (c .args .name .now) (c .in-rest .ensures tt) in
     let l = b .names .ok .0 in
     let told = c .push-reserved .ensures in
-    (omega arith, (omega (arith, b .room), (b .eight, tt)))
+    let rules = together (rulesOf (vec-items (b .slots))) in
+    let known = subst (λ (n : ℕ). below n rules ≡ true) (sym (told .len)) (below-more rules (vec-len (b .names)) (b .known)) in
+    (omega arith, (omega (arith, b .room), (b .eight, (b .basic, (known, tt)))))
 
 pub returns : need.returns
 returns g c =

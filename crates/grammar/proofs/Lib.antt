@@ -1,0 +1,9 @@
+pub mod Declared
+pub mod Fetching
+pub mod Through
+pub mod Reading
+pub mod Whole
+pub mod Unique
+pub mod Counting
+pub mod Surveying
+pub mod Descent

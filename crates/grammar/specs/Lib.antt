@@ -1,0 +1,12 @@
+pub mod Signals
+pub mod Limits
+pub mod Scan
+pub mod Grammar
+pub mod Counts
+pub mod Answers
+pub mod Laws
+pub mod Samples
+pub mod Stands
+pub mod Left
+pub mod Ahead
+pub mod Parts
