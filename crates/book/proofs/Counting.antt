@@ -35,9 +35,9 @@ pub spent-more : (a b r l : ℕ) → Some l ≡ spent a r → spent b l ≡ spen
 spent-more a b r l e =
     let h = left-is a r l e in
     ⊎-elim
-      (λ k. let k′ : r < a + b = omega (arith, h) in scant b l k ∙ sym (scant (a + b) r k′))
-      (λ k. let k′ : a + b ≤ r = omega (arith, h) in let q : l - b ≡ r - (a + b) = omega (arith, h) in enough b l k ∙ ap (λ (n : ℕ). Some n) q ∙ sym (enough (a + b) r k′))
-      (cases-lt l b)
+    (λ k. let k′ : r < a + b = omega (arith, h) in scant b l k ∙ sym (scant (a + b) r k′))
+    (λ k. let k′ : a + b ≤ r = omega (arith, h) in let q : l - b ≡ r - (a + b) = omega (arith, h) in enough b l k ∙ ap (λ (n : ℕ). Some n) q ∙ sym (enough (a + b) r k′))
+    (cases-lt l b)
 
 pub spent-none : (a b r : ℕ) → None ≡ spent a r → None ≡ spent (a + b) r
 spent-none a b r e = let h = none-is a r e in sym (scant (a + b) r (omega arith))
@@ -51,9 +51,9 @@ module _ (n m : ℕ) (p : ℕ → Bool) where
   fits-all room left e d =
       let k = left-is _ _ _ d in
       ⊎-elim
-        (λ x. let y : 12 < tally 16 p + (n + m) = omega (arith, e, k) in lt-leb _ _ x ∙ sym (lt-leb _ _ y))
-        (λ x. let y : tally 16 p + (n + m) ≤ 12 = omega (arith, e, k) in le-leb _ _ x ∙ sym (le-leb _ _ y))
-        (cases-lt left (tally 16 p))
+      (λ x. let y : 12 < tally 16 p + (n + m) = omega (arith, e, k) in lt-leb _ _ x ∙ sym (lt-leb _ _ y))
+      (λ x. let y : tally 16 p + (n + m) ≤ 12 = omega (arith, e, k) in le-leb _ _ x ∙ sym (le-leb _ _ y))
+      (cases-lt left (tally 16 p))
 
   pub fits-none : (room : ℕ) → (n ≤ 12) × (room ≡ 12 - n) → None ≡ spent m room → false ≡ leb (tally 16 p + (n + m)) 12
   fits-none room e d =

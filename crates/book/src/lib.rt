@@ -1,8 +1,8 @@
 // The rule book: declared signals and eight slots for rules.
 mod book;
+mod declares;
 mod fit;
 mod rules;
-mod declares;
 mod slot;
 
 pub use book::Book;

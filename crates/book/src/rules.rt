@@ -21,13 +21,17 @@ use grammar::survey;
 use memory::Memory;
 
 const LAST_SLOT: usize = 7;
+
 const LONGEST_TEXT: usize = 512;
 
 // The reading's fault, carried whole.
 fn unread(e: Fault<ReadingCause>) -> Fault<BookCause>
     ensures { λ r. ⌜ bookRefusal r ≡ readingRefusal e ⌝ }
 {
-    Fault { cause: BookCause::Reading(e.cause), place: e.place }
+    Fault {
+        cause: BookCause::Reading(e.cause),
+        place: e.place,
+    }
 }
 
 impl Book {
@@ -54,7 +58,10 @@ impl Book {
                 if fits(self.slots.as_slice(), seen.operators, &seen.signals) {
                     None
                 } else {
-                    Some(Fault { cause: BookCause::ManyBasics, place: 0 })
+                    Some(Fault {
+                        cause: BookCause::ManyBasics,
+                        place: 0,
+                    })
                 }
             }
             Err(e) => Some(unread(e)),
@@ -66,13 +73,22 @@ impl Book {
         ensures { λ r. ⌜ mapped bookRefusal r ≡ slotCause (stateOf (now (self .entry))) slot (now (text .entry)) ⌝ }
     {
         if slot > LAST_SLOT {
-            return Some(Fault { cause: BookCause::NoSlot, place: 0 });
+            return Some(Fault {
+                cause: BookCause::NoSlot,
+                place: 0,
+            });
         }
         if self.stands(slot) {
-            return Some(Fault { cause: BookCause::Occupied, place: 0 });
+            return Some(Fault {
+                cause: BookCause::Occupied,
+                place: 0,
+            });
         }
         if text.len() > LONGEST_TEXT {
-            return Some(Fault { cause: BookCause::LongText, place: LONGEST_TEXT });
+            return Some(Fault {
+                cause: BookCause::LongText,
+                place: LONGEST_TEXT,
+            });
         }
         None
     }
@@ -91,7 +107,12 @@ impl Book {
     }
 
     // Puts the formula of a text into an empty slot.
-    pub fn take<M: Memory>(&mut self, memory: &M, slot: usize, text: &[u8]) -> Result<(), Fault<BookCause>>
+    pub fn take<M: Memory>(
+        &mut self,
+        memory: &M,
+        slot: usize,
+        text: &[u8],
+    ) -> Result<(), Fault<BookCause>>
         ensures taken { λ r. ⌜ Taken (stateOf (now (self .entry))) slot (now (text .entry)) r (stateOf (now (self .exit))) ⌝ }
         ensures honest { λ r. ⌜ (M·Memory .plenty (now (memory .entry)) → TakeCause (stateOf (now (self .entry))) slot (now (text .entry)) None → isOk r ≡ true) ⌝ }
     {
@@ -105,7 +126,10 @@ impl Book {
             }
             Err(why) => match why {
                 Unread::Refused(e) => Err(unread(e)),
-                Unread::NoMemory => Err(Fault { cause: BookCause::NoMemory, place: 0 }),
+                Unread::NoMemory => Err(Fault {
+                    cause: BookCause::NoMemory,
+                    place: 0,
+                }),
             },
         }
     }

@@ -41,6 +41,40 @@ fn forms_of_signal(rt: LibcRuntime) -> Result<(), Fail> {
 }
 
 #[test]
+fn forms_of_rule_and_drop(rt: LibcRuntime) -> Result<(), Fail> {
+    answers(
+        rt.alloc(),
+        b"rule 0 true\ndrop 0\ndrop 0\n",
+        "ok\nok\nrefused 9 0\n",
+    )?;
+    answers(
+        rt.alloc(),
+        b"rule 0 \nrule 0\nrule  0 true\n",
+        "refused 4 0\nrefused 23 0\nrefused 23 0\n",
+    )?;
+    answers(
+        rt.alloc(),
+        b"rule 0007 true\nrule 00007 true\n",
+        "ok\nrefused 23 0\n",
+    )?;
+    answers(
+        rt.alloc(),
+        b"rule 9999 true\nrule x true\n",
+        "refused 7 0\nrefused 23 0\n",
+    )?;
+    answers(
+        rt.alloc(),
+        b"rule 0true\nrule 0  true\n",
+        "refused 23 0\nok\n",
+    )?;
+    answers(
+        rt.alloc(),
+        b"drop 0 \ndrop\ndrop \ndrop 8\n",
+        "refused 23 0\nrefused 23 0\nrefused 23 0\nrefused 7 0\n",
+    )
+}
+
+#[test]
 fn no_more_than_65536_bytes_are_read(rt: LibcRuntime) -> Result<(), Fail> {
     let heap = rt.alloc();
     let long = vec![in heap; b'a'; 65_537]?;

@@ -1,3 +1,4 @@
 pub mod Prefixes
 pub mod Cutting
 pub mod Growing
+pub mod Digits

@@ -1,4 +1,5 @@
 pub mod Lines
+pub mod Numbers
 pub mod Forms
 pub mod Answers
 pub mod Responses

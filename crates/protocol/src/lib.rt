@@ -2,6 +2,7 @@
 mod answers;
 mod forms;
 mod input;
+mod numbers;
 mod responses;
 mod source;
 mod tokens;

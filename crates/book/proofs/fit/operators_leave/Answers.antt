@@ -8,8 +8,8 @@ returns-in-None c = ops-none (c .args .room) (c .args .slots .now) (c .loop-s .s
 pub loop-s-again : need.loop-s-again
 loop-s-again c =
     elim (c .match-s .came) [
-      in-Standing·in-Some w ↦ ops-some (c .args .room) (c .args .slots .now) (c .loop-s .s-index) (c .loop-s .left) (c .loop-s .inv) (c .s-item .result) (c .loop-s-test .taken) (c .s-item .is) (w .in-Standing .f) (w .in-Standing .is) (w .in-Some .less) (w .in-Some .ensures tt) (c .match-s .left) (w .left-is)
-    | in-rest w ↦ ops-skip (c .args .room) (c .args .slots .now) (c .loop-s .s-index) (c .loop-s .left) (c .loop-s .inv) (c .s-item .result) (c .loop-s-test .taken) (c .s-item .is) (w .in-rest .is) (c .match-s .left) (w .left-is)
+      | in-Standing·in-Some w ↦ ops-some (c .args .room) (c .args .slots .now) (c .loop-s .s-index) (c .loop-s .left) (c .loop-s .inv) (c .s-item .result) (c .loop-s-test .taken) (c .s-item .is) (w .in-Standing .f) (w .in-Standing .is) (w .in-Some .less) (w .in-Some .ensures tt) (c .match-s .left) (w .left-is)
+      | in-rest w ↦ ops-skip (c .args .room) (c .args .slots .now) (c .loop-s .s-index) (c .loop-s .left) (c .loop-s .inv) (c .s-item .result) (c .loop-s-test .taken) (c .s-item .is) (w .in-rest .is) (c .match-s .left) (w .left-is)
     ]
 
 pub returns : need.returns

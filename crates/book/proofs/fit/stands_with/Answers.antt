@@ -8,8 +8,8 @@ returns-then-has-signal c = occ-hit (c .args .g) (c .args .slots .now) (c .loop-
 pub loop-s-again : need.loop-s-again
 loop-s-again c =
     elim (c .match-s .came) [
-      in-Standing·else-has-signal w ↦ occ-miss (c .args .g) (c .args .slots .now) (c .loop-s .s-index) (c .loop-s .inv) (c .s-item .result) (c .loop-s-test .taken) (c .s-item .is) (w .in-Standing .f) (w .in-Standing .is) (w .if-has-signal .ensures tt)
-    | in-rest w ↦ occ-skip (c .args .g) (c .args .slots .now) (c .loop-s .s-index) (c .loop-s .inv) (c .s-item .result) (c .loop-s-test .taken) (c .s-item .is) (w .in-rest .is)
+      | in-Standing·else-has-signal w ↦ occ-miss (c .args .g) (c .args .slots .now) (c .loop-s .s-index) (c .loop-s .inv) (c .s-item .result) (c .loop-s-test .taken) (c .s-item .is) (w .in-Standing .f) (w .in-Standing .is) (w .if-has-signal .ensures tt)
+      | in-rest w ↦ occ-skip (c .args .g) (c .args .slots .now) (c .loop-s .s-index) (c .loop-s .inv) (c .s-item .result) (c .loop-s-test .taken) (c .s-item .is) (w .in-rest .is)
     ]
 
 pub returns : need.returns

@@ -19,8 +19,7 @@ ghost-self c =
     let b = c .args .self .now in
     let i = c .args .slot in
     let rules = rulesOf (vec-items (b .slots)) in
-    let e = map-set ruleOf (vec-items (b .slots)) i Empty in
-    (
+    let e = map-set ruleOf (vec-items (b .slots)) i Empty in (
       b .few,
       (
         b .room,
@@ -36,8 +35,7 @@ ghost-self c =
 
 pub returns : need.returns
 returns c =
-    let b = c .args .self .now in
-    (
+    let b = c .args .self .now in (
       sym (c .in-rest .ensures tt),
       ap (λ (rs : List (Option Form)). record { names = namesOf (vec-items (b .names)); rules = rs }) (map-set ruleOf (vec-items (b .slots)) (c .args .slot) Empty),
     )

@@ -13,8 +13,7 @@ use Rattle.book.proofs.book.Book.new.Needs as need
 pub ghost-result : need.ghost-result
 ghost-result g c =
     let names = c .in-Ok .ensures tt .empty in
-    let slots = c .in-Ok-empty-slots .ensures tt .eight in
-    (
+    let slots = c .in-Ok-empty-slots .ensures tt .eight in (
       omega arith,
       (
         names .2,

@@ -47,8 +47,7 @@ ghost-self g c =
     let e = map-set ruleOf (vec-items (b .slots)) i (Standing (c .in-Ok .f)) in
     let derives : Derives (namesOf names) t f = subst (λ (ns : List (Vec ℕ Global)). Derives (namesOf ns) t f) (c .as-slice .ensures .value) (c .in-Ok .ensures tt .1) in
     let long : length (namesOf names) ≡ vec-len (b .names) = omega (arith, names-long names, b .names .ok .0) in
-    let known = subst (λ (n : ℕ). below n f ≡ true) long (derived-below (namesOf names) t f derives) in
-    (
+    let known = subst (λ (n : ℕ). below n f ≡ true) long (derived-below (namesOf names) t f derives) in (
       b .few,
       (
         b .room,

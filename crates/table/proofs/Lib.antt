@@ -1,0 +1,3 @@
+pub mod Edges
+pub mod Past
+pub mod Bits

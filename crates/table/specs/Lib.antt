@@ -1,0 +1,5 @@
+pub mod Rows
+pub mod Loads
+pub mod TableLawful
+pub mod Standing
+pub mod StandingLawful
