@@ -41,6 +41,9 @@ falls-any (Err y) a b k = omega arith
 abbrev pub Again : Tok → Type 0
 Again t = (p : ℕ) (x y : Verdict) → endedStep t p x y ≡ x
 
+pub same-form : {names : List (List ℕ)} {l : Rung} {s u : Stream} {f g : Form} → g ≡ f → Reads names l s f u → Reads names l s g u
+same-form {names} {l} {s} {u} e r = subst (λ x. Reads names l s x u) (sym e) r
+
 module _ (names : List (List ℕ)) (plenty : Type 0) where
   pub broken : (l : Rung) (s u : Stream) (r : Result Formula Unread) (e : Unread) → ErrBy r (λ y. y ≡ e) → Wrong names plenty e s → Answered names plenty l s u r
   broken l s u (Ok f) e b w = absurd b

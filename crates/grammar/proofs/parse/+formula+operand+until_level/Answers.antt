@@ -1,4 +1,4 @@
-use mathlib.Core.Path.{refl, sym, subst}
+use mathlib.Core.Path.{refl, sym}
 use native.Mathlib.Omega.{arith}
 use Rattle.reading.specs.Tokens.{open′, and′, or′, implies′, until′, true′, false′, name′}
 use Rattle.grammar.specs.declared.state.Infix.the-variants as ops
@@ -7,9 +7,8 @@ use mathlib.Core.List.{List}
 use Prim.Native.Nat.{ℕ}
 use Rattle.reading.specs.Names.{namesOf}
 use Rattle.grammar.specs.declared.unread.Unread.the-variants.{Refused}
-use Rattle.grammar.specs.Grammar.{Reads, atom, untils, ands, ors, whole, r-true, r-false, r-name, r-until, r-and, r-or, r-implies, as-until, as-and, as-or, as-whole}
-use Rattle.grammar.specs.Ahead.{streamOf}
-use Rattle.grammar.proofs.Reading.{broken, falls-err, falls-any, at-level, Again, Makes, wrong-advance, wrong-right, joined, both, past-until, past-and, past-or, past-implies, one-token, prefix-read, paren-read, wrong-close}
+use Rattle.grammar.specs.Grammar.{atom, untils, ands, ors, whole, r-true, r-false, r-name, r-until, r-and, r-or, r-implies, as-until, as-and, as-or, as-whole}
+use Rattle.grammar.proofs.Reading.{broken, falls-err, falls-any, at-level, Again, Makes, wrong-advance, wrong-right, same-form, joined, both, past-until, past-and, past-or, past-implies, one-token, prefix-read, paren-read, wrong-close}
 use Rattle.grammar.proofs.parse.+formula+operand+until_level.Needs as need
 
 -- each operator goes on to another operand
@@ -163,7 +162,7 @@ formula-loop-s-again g t c =
     let went = c .in-Continue-advance-2 .ensures tt in
     let second = c .in-Continue-g-2 .ensures tt in (
       omega (arith, c .loop-s .inv .0, went .falls, second .falls),
-      λ x r. subst (λ f. Reads (namesOf (c .args .names .now)) ors x f (streamOf (c .formula-in-Or-infix .last .s))) (sym (c .in-Continue-f-3 .ensures tt)) (joined (namesOf (c .args .names .now)) (g .M·Memory .plenty (c .args .memory .now)) ops.Or or′ _ (make-or (namesOf (c .args .names .now)) (g .M·Memory .plenty (c .args .memory .now))) (c .loop-s .inv .1 x r) (c .in-Or-infix .ensures tt .0) (went .told) (second .read .0)),
+      λ x r. same-form (c .in-Continue-f-3 .ensures tt) (joined (namesOf (c .args .names .now)) (g .M·Memory .plenty (c .args .memory .now)) ops.Or or′ _ (make-or (namesOf (c .args .names .now)) (g .M·Memory .plenty (c .args .memory .now))) (c .loop-s .inv .1 x r) (c .in-Or-infix .ensures tt .0) (went .told) (second .read .0)),
       second .read .1,
     )
 
@@ -204,7 +203,7 @@ formula-loop-s-2-again g t c =
     let went = c .in-Continue-advance-3 .ensures tt in
     let second = c .in-Continue-next .ensures tt in (
       omega (arith, c .loop-s-2 .inv .0, went .falls, second .falls),
-      λ x r. subst (λ f. Reads (namesOf (c .args .names .now)) ands x f (streamOf (c .until-level-in-And-infix .last .s))) (sym (c .in-Continue-f-5 .ensures tt)) (joined (namesOf (c .args .names .now)) (g .M·Memory .plenty (c .args .memory .now)) ops.And and′ _ (make-and (namesOf (c .args .names .now)) (g .M·Memory .plenty (c .args .memory .now))) (c .loop-s-2 .inv .1 x r) (c .in-And-infix .ensures tt .0) (went .told) (second .read .0)),
+      λ x r. same-form (c .in-Continue-f-5 .ensures tt) (joined (namesOf (c .args .names .now)) (g .M·Memory .plenty (c .args .memory .now)) ops.And and′ _ (make-and (namesOf (c .args .names .now)) (g .M·Memory .plenty (c .args .memory .now))) (c .loop-s-2 .inv .1 x r) (c .in-And-infix .ensures tt .0) (went .told) (second .read .0)),
       second .read .1,
     )
 
