@@ -1,8 +1,10 @@
 // A new book, and the signals that are declared in it.
 ghost use mathlib.Core.Path.{_≡_};
 ghost use mathlib.Core.Bool.{true};
+ghost use mathlib.Core.List.{[], _∷_, _++_};
+ghost use Prim.Native.Nat.{_+_, _<_};
 ghost use lib.ListN.{length, replicate};
-ghost use Rattle.std.specs.Of.Vec.{vec-items, vec-len};
+ghost use Rattle.std.specs.Of.Vec.{vec-cap, vec-items, vec-len};
 ghost use Rattle.std.specs.Options.{mapped};
 ghost use Rattle.std.specs.Results.{Cases, isOk};
 ghost use Rattle.std.specs.Vec.{made};
@@ -54,6 +56,16 @@ fn empty_slots<M: Memory>(memory: &M) -> Result<Vec<Slot>, AllocError>
         slots.push_reserved(Slot::Empty);
     }
     Ok(slots)
+}
+
+// Puts a name behind the others.
+fn store(names: &mut Vec<Vec<u8>>, name: Vec<u8>)
+    requires { ⌜ vec-len (now names) < vec-cap (now names) ⌝ }
+    ensures items { λ _. ⌜ vec-items (now (names .exit)) ≡ vec-items (now (names .entry)) ++ name ∷ [] ⌝ }
+    ensures len { λ _. ⌜ vec-len (now (names .exit)) ≡ vec-len (now (names .entry)) + 1 ⌝ }
+    ensures capacity { λ _. ⌜ vec-cap (now (names .exit)) ≡ vec-cap (now (names .entry)) ⌝ }
+{
+    names.push_reserved(name);
 }
 
 impl Book {
@@ -122,7 +134,7 @@ impl Book {
             });
         };
         let number = self.names.len();
-        self.names.push_reserved(copy);
+        store(&mut self.names, copy);
         Ok(number)
     }
 }

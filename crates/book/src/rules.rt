@@ -1,8 +1,9 @@
 // The rules of a book: taking one into a slot, and dropping one.
 ghost use mathlib.Core.Path.{_≡_};
 ghost use mathlib.Core.Bool.{true};
-ghost use Prim.Native.Nat.{_≤_};
-ghost use lib.ListN.{getD};
+ghost use Prim.Native.Nat.{_≤_, _<_};
+ghost use lib.ListN.{getD, set};
+ghost use Rattle.std.specs.Of.Vec.{vec-items, vec-len};
 ghost use Rattle.std.specs.Options.{isSome, mapped};
 ghost use Rattle.std.specs.Results.{isOk};
 ghost use Rattle.std.specs.declared.option.Option.the-variants.{None};
@@ -32,6 +33,15 @@ fn unread(e: Fault<ReadingCause>) -> Fault<BookCause>
         cause: BookCause::Reading(e.cause),
         place: e.place,
     }
+}
+
+// Puts this into one slot.
+fn put(slots: &mut Vec<Slot>, i: usize, slot: Slot)
+    requires { ⌜ i < vec-len (now slots) ⌝ }
+    ensures items { λ _. ⌜ vec-items (now (slots .exit)) ≡ set (vec-items (now (slots .entry))) i slot ⌝ }
+    ensures len { λ _. ⌜ vec-len (now (slots .exit)) ≡ vec-len (now (slots .entry)) ⌝ }
+{
+    slots[i] = slot;
 }
 
 impl Book {
@@ -121,7 +131,7 @@ impl Book {
         }
         match read(memory, self.names.as_slice(), text) {
             Ok(f) => {
-                self.slots[slot] = Slot::Standing(f);
+                put(&mut self.slots, slot, Slot::Standing(f));
                 Ok(())
             }
             Err(why) => match why {
@@ -141,7 +151,7 @@ impl Book {
         if let Some(cause) = self.drop_cause(slot) {
             return Err(Fault { cause, place: 0 });
         }
-        self.slots[slot] = Slot::Empty;
+        put(&mut self.slots, slot, Slot::Empty);
         Ok(())
     }
 }

@@ -28,7 +28,12 @@ fn letters(heap: Global) -> Result<Vec<Vec<u8>>, AllocError> {
 
 // Reads a text over the signals a, b and c.
 #[unsafe(no_mangle)]
-pub extern "C" fn mehaldub_read(heap: Global, text: &[u8], out: &mut [u8], answer: &mut ReadAnswer) {
+pub extern "C" fn mehaldub_read(
+    heap: Global,
+    text: &[u8],
+    out: &mut [u8],
+    answer: &mut ReadAnswer,
+) {
     answer.len = 0;
     answer.place = 0;
     answer.number = 30;

@@ -85,7 +85,11 @@ fn state(start: Option<&str>, fulfils: Option<&str>, marks: Option<&str>) -> Opt
             return None;
         }
     };
-    Some(StateRow { start, fulfils: fulfilled(fulfils?)?, marks: marked(marks?)? })
+    Some(StateRow {
+        start,
+        fulfils: fulfilled(fulfils?)?,
+        marks: marked(marks?)?,
+    })
 }
 
 fn probe(step: Option<&str>, signal: Option<&str>, value: Option<&str>) -> Option<Probe> {
@@ -98,7 +102,11 @@ fn probe(step: Option<&str>, signal: Option<&str>, value: Option<&str>) -> Optio
             return None;
         }
     };
-    Some(Probe { step, signal, value })
+    Some(Probe {
+        step,
+        signal,
+        value,
+    })
 }
 
 fn parse_row(line: &str) -> Row {

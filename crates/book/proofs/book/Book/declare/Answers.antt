@@ -11,8 +11,8 @@ use Rattle.book.proofs.Holding.{names-long, names-push, room-for-name}
 use Rattle.book.proofs.Sets.{below-more}
 use Rattle.book.proofs.book.Book.declare.Needs as need
 
-pub push-reserved-requires : need.push-reserved-requires
-push-reserved-requires g c κs =
+pub store-requires : need.store-requires
+store-requires g c κs =
     let b = c .args .self .now in
     let few = room-for-name (vec-items (b .names)) (rulesOf (vec-items (b .slots))) (c .args .name .now) (c .in-rest .ensures tt) in
     let l = b .names .ok .0 in
@@ -23,7 +23,7 @@ ghost-self g c =
     let b = c .args .self .now in
     let few = room-for-name (vec-items (b .names)) (rulesOf (vec-items (b .slots))) (c .args .name .now) (c .in-rest .ensures tt) in
     let l = b .names .ok .0 in
-    let told = c .push-reserved .ensures in
+    let told = c .store .ensures in
     let rules = together (rulesOf (vec-items (b .slots))) in
     let known = subst (λ (n : ℕ). below n rules ≡ true) (sym (told .len)) (below-more rules (vec-len (b .names)) (b .known)) in
     (omega arith, (omega (arith, b .room), (b .eight, (b .basic, (known, tt)))))
@@ -38,7 +38,7 @@ returns g c =
         sym (c .in-rest .ensures tt),
         omega arith,
         ap (λ (ns : List (List ℕ)). record { names = ns; rules = rulesOf (vec-items (b .slots)) })
-            (names-push (vec-items (b .names)) _ (c .in-Ok .copy) (c .args .name .now) (c .push-reserved .ensures .items) (c .in-Ok .ensures tt .same)),
+            (names-push (vec-items (b .names)) _ (c .in-Ok .copy) (c .args .name .now) (c .store .ensures .items) (c .in-Ok .ensures tt .same)),
       );
       honest = λ _ _. refl;
     }

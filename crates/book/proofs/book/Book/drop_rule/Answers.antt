@@ -1,4 +1,4 @@
-use mathlib.Core.Path.{_≡_, sym, ap, subst}
+use mathlib.Core.Path.{_≡_, sym, ap, subst, _∙_}
 use mathlib.Core.Bool.{true}
 use mathlib.Core.List.{List}
 use Prim.Native.Nat.{_≤_}
@@ -19,12 +19,12 @@ ghost-self c =
     let b = c .args .self .now in
     let i = c .args .slot in
     let rules = rulesOf (vec-items (b .slots)) in
-    let e = map-set ruleOf (vec-items (b .slots)) i Empty in (
+    let e = ap rulesOf (c .put .ensures .items) ∙ map-set ruleOf (vec-items (b .slots)) i Empty in (
       b .few,
       (
         b .room,
         (
-          b .eight,
+          omega (arith, b .eight, c .put .ensures .len),
           (
             subst (λ (rs : List (Option Form)). basics (together rs) ≤ 12) (sym e) (omega (arith, basics-clear rules i, b .basic)),
             (subst (λ (rs : List (Option Form)). below (vec-len (b .names)) (together rs) ≡ true) (sym e) (below-clear rules i (vec-len (b .names)) (b .known)), tt),
@@ -37,5 +37,5 @@ pub returns : need.returns
 returns c =
     let b = c .args .self .now in (
       sym (c .in-rest .ensures tt),
-      ap (λ (rs : List (Option Form)). record { names = namesOf (vec-items (b .names)); rules = rs }) (map-set ruleOf (vec-items (b .slots)) (c .args .slot) Empty),
+      ap (λ (rs : List (Option Form)). record { names = namesOf (vec-items (b .names)); rules = rs }) (ap rulesOf (c .put .ensures .items) ∙ map-set ruleOf (vec-items (b .slots)) (c .args .slot) Empty),
     )

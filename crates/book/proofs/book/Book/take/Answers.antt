@@ -1,4 +1,4 @@
-use mathlib.Core.Path.{_≡_, refl, sym, ap, subst}
+use mathlib.Core.Path.{_≡_, refl, sym, ap, subst, _∙_}
 use mathlib.Core.Bool.{true, false}
 use mathlib.Core.List.{List}
 use Prim.Native.Nat.{ℕ, _≤_}
@@ -44,7 +44,7 @@ ghost-self g c =
     let rules = rulesOf (vec-items (b .slots)) in
     let names = vec-items (b .names) in
     let f = formOf (c .in-Ok .f) in
-    let e = map-set ruleOf (vec-items (b .slots)) i (Standing (c .in-Ok .f)) in
+    let e = ap rulesOf (c .put .ensures .items) ∙ map-set ruleOf (vec-items (b .slots)) i (Standing (c .in-Ok .f)) in
     let derives : Derives (namesOf names) t f = subst (λ (ns : List (Vec ℕ Global)). Derives (namesOf ns) t f) (c .as-slice .ensures .value) (c .in-Ok .ensures tt .1) in
     let long : length (namesOf names) ≡ vec-len (b .names) = omega (arith, names-long names, b .names .ok .0) in
     let known = subst (λ (n : ℕ). below n f ≡ true) long (derived-below (namesOf names) t f derives) in (
@@ -52,7 +52,7 @@ ghost-self g c =
       (
         b .room,
         (
-          b .eight,
+          omega (arith, b .eight, c .put .ensures .len),
           (
             subst (λ (rs : List (Option Form)). basics (together rs) ≤ 12) (sym e) (no-take-cause (stateOf b) i t (c .in-rest .ensures tt) .room f derives),
             (subst (λ (rs : List (Option Form)). below (vec-len (b .names)) (together rs) ≡ true) (sym e) (below-set rules i (vec-len (b .names)) f known (b .known)), tt),
@@ -71,7 +71,7 @@ returns-in-Ok g c =
         (
           f,
           subst (λ (ns : List (Vec ℕ Global)). Derives (namesOf ns) (c .args .text .now) f) (c .as-slice .ensures .value) (c .in-Ok .ensures tt .1),
-          ap (λ (rs : List (Option Form)). record { names = namesOf (vec-items (b .names)); rules = rs }) (map-set ruleOf (vec-items (b .slots)) (c .args .slot) (Standing (c .in-Ok .f))),
+          ap (λ (rs : List (Option Form)). record { names = namesOf (vec-items (b .names)); rules = rs }) (ap rulesOf (c .put .ensures .items) ∙ map-set ruleOf (vec-items (b .slots)) (c .args .slot) (Standing (c .in-Ok .f))),
         ),
       );
       honest = λ _ _. refl;
