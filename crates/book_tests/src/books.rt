@@ -8,7 +8,7 @@ use memory::GlobalMemory;
 use std::alloc::Global;
 use std::test::*;
 
-pub fn new_book(heap: Global) -> Result<Book, Fail> {
+pub(crate) fn new_book(heap: Global) -> Result<Book, Fail> {
     match Book::new(&heap) {
         Ok(book) => Ok(book),
         Err(_) => Err(Fail::new("no memory for a book")),
@@ -16,7 +16,7 @@ pub fn new_book(heap: Global) -> Result<Book, Fail> {
 }
 
 // The signals a, b, c and so on.
-pub fn book_of(heap: Global, signals: u8) -> Result<Book, Fail> {
+pub(crate) fn book_of(heap: Global, signals: u8) -> Result<Book, Fail> {
     let mut book = new_book(heap)?;
     for i in 0..signals.min(16) {
         check(book.declare(&heap, &[b'a' + i]).is_ok())?;
@@ -24,14 +24,14 @@ pub fn book_of(heap: Global, signals: u8) -> Result<Book, Fail> {
     Ok(book)
 }
 
-pub fn is_granted<T: Drop>(answer: Result<T, Fault<BookCause>>) -> Result<(), Fail> {
+pub(crate) fn is_granted<T: Drop>(answer: Result<T, Fault<BookCause>>) -> Result<(), Fail> {
     match answer {
         Ok(_) => Ok(()),
         Err(_) => Err(Fail::new("refused")),
     }
 }
 
-pub fn is_refused<T: Drop>(
+pub(crate) fn is_refused<T: Drop>(
     answer: Result<T, Fault<BookCause>>,
     number: u32,
     place: usize,

@@ -10,7 +10,7 @@ use table::EdgeRow;
 use table::StateRow;
 use table::Table;
 
-pub fn state(start: bool, fulfils: u32, marks: u32) -> StateRow {
+pub(crate) fn state(start: bool, fulfils: u32, marks: u32) -> StateRow {
     StateRow {
         start,
         fulfils,
@@ -18,11 +18,11 @@ pub fn state(start: bool, fulfils: u32, marks: u32) -> StateRow {
     }
 }
 
-pub fn edge(from: u32, to: u32) -> EdgeRow {
+pub(crate) fn edge(from: u32, to: u32) -> EdgeRow {
     EdgeRow { from, to }
 }
 
-pub fn probe(step: u32, signal: u8, value: Value) -> Probe {
+pub(crate) fn probe(step: u32, signal: u8, value: Value) -> Probe {
     Probe {
         step,
         signal,
@@ -31,12 +31,12 @@ pub fn probe(step: u32, signal: u8, value: Value) -> Probe {
 }
 
 // Fit or not, the states and the promises.
-pub fn sizes<P: Plant>(p: &P) -> (bool, u32, u32) {
+pub(crate) fn sizes<P: Plant>(p: &P) -> (bool, u32, u32) {
     (p.is_fit(), p.states(), p.promises())
 }
 
 // Of a state s and a state t, whether s should be a start, its smallest step at or above t, and its mark word.
-pub fn sees<P: Plant>(p: &P, states: &[(u32, u32, bool, Option<u32>, u32)]) -> bool {
+pub(crate) fn sees<P: Plant>(p: &P, states: &[(u32, u32, bool, Option<u32>, u32)]) -> bool {
     for (s, t, start, step, marks) in states {
         if p.is_start(*s) != *start || p.next_step(*s, *t) != *step || p.marks(*s) != *marks {
             return false;
@@ -46,7 +46,7 @@ pub fn sees<P: Plant>(p: &P, states: &[(u32, u32, bool, Option<u32>, u32)]) -> b
 }
 
 // Of a state and a promise, whether it should fulfil it.
-pub fn keeps<P: Plant>(p: &P, promises: &[(u32, u32, bool)]) -> bool {
+pub(crate) fn keeps<P: Plant>(p: &P, promises: &[(u32, u32, bool)]) -> bool {
     for (s, k, fulfils) in promises {
         if p.fulfils(*s, *k) != *fulfils {
             return false;
@@ -56,7 +56,7 @@ pub fn keeps<P: Plant>(p: &P, promises: &[(u32, u32, bool)]) -> bool {
 }
 
 // The number and the place of a refusal.
-pub fn refusal(r: Result<(), Fault<PlantCause>>) -> Option<(u32, usize)> {
+pub(crate) fn refusal(r: Result<(), Fault<PlantCause>>) -> Option<(u32, usize)> {
     match r {
         Ok(()) => None,
         Err(fault) => Some((fault.cause.number(), fault.place)),
@@ -64,7 +64,7 @@ pub fn refusal(r: Result<(), Fault<PlantCause>>) -> Option<(u32, usize)> {
 }
 
 // What a new table answers to a load.
-pub fn tried<'a>(
+pub(crate) fn tried<'a>(
     states: &'a [StateRow],
     edges: &'a [EdgeRow],
     promises: u32,

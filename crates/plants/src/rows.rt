@@ -139,7 +139,7 @@ fn parse_row(line: &str) -> Row {
 }
 
 // The rows of a text, or the number of the first line of no known form, counted from 1; or want of memory.
-pub fn rows_of(heap: Global, text: &str) -> Result<Result<Rows, usize>, AllocError> {
+pub(crate) fn rows_of(heap: Global, text: &str) -> Result<Result<Rows, usize>, AllocError> {
     let mut rows = Rows {
         states: Vec::new(heap),
         edges: Vec::new(heap),

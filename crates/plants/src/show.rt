@@ -31,7 +31,7 @@ fn show_state<P: Plant>(rt: &LibcRuntime, plant: &P, s: u32) -> io::Result<()> {
 }
 
 // Fitness and sizes, and then each state.
-pub fn show<P: Plant>(rt: &LibcRuntime, name: &str, plant: &P) -> io::Result<()> {
+pub(crate) fn show<P: Plant>(rt: &LibcRuntime, name: &str, plant: &P) -> io::Result<()> {
     if !plant.is_fit() {
         return println!(rt, "{name}: unfit");
     }
