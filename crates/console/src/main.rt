@@ -1,7 +1,7 @@
 // Answers each line of the standard input, over a new book.
 use book::Book;
 use memory::GlobalMemory;
-use protocol::AnswerDisplay;
+use protocol::answer_text;
 use protocol::first_line;
 use protocol::read_input;
 use protocol::respond;
@@ -15,7 +15,9 @@ fn run(rt: &LibcRuntime) -> Result<(), AnyError> {
     };
     let mut rest = input.as_slice();
     while let Some(cut) = first_line(rest) {
-        println!(rt, "{}", respond(&mut book, &memory, cut.line))?;
+        let answer = respond(&mut book, &memory, cut.line);
+        let text = answer_text(memory, &answer)?;
+        println!(rt, "{text}")?;
         rest = cut.rest;
     }
     Ok(())

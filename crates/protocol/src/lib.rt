@@ -9,6 +9,7 @@ mod tokens;
 
 pub use answers::Answer;
 pub use answers::AnswerDisplay;
+pub use answers::answer_text;
 pub use forms::Line;
 pub use forms::line_of;
 pub use input::Cut;
