@@ -1,6 +1,7 @@
 // Loads a table from the rows on the standard input, joins it with a probe, and prints both.
 mod rows;
 mod show;
+mod walks;
 
 use faults::FaultDisplay;
 use faults::PlantCauseTold;
@@ -14,6 +15,7 @@ use show::show;
 use std::error::AnyError;
 use table::Table;
 use table::TablePlant;
+use walks::show_walk;
 
 fn show_all(rt: &LibcRuntime, rows: &Rows) -> Result<(), AnyError> {
     let mut table = Table::new();
@@ -22,9 +24,16 @@ fn show_all(rt: &LibcRuntime, rows: &Rows) -> Result<(), AnyError> {
         return Ok(());
     }
     show(rt, "table", &table)?;
+    if rows.walk {
+        show_walk(rt, "table", &table)?;
+    }
     if let Some(probe) = rows.probe {
         show(rt, "probe", &probe)?;
-        show(rt, "joint", &join(&table, &probe))?;
+        let joint = join(&table, &probe);
+        show(rt, "joint", &joint)?;
+        if rows.walk {
+            show_walk(rt, "joint", &joint)?;
+        }
     }
     Ok(())
 }

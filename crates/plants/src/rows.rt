@@ -13,6 +13,8 @@ pub struct Rows {
     pub edges: Vec<EdgeRow>,
     pub promises: u32,
     pub probe: Option<Probe>,
+    // whether a fair walk is asked for
+    pub walk: bool,
 }
 
 // One line of a file.
@@ -21,6 +23,7 @@ enum Row {
     State(StateRow),
     Edge(EdgeRow),
     Probe(Probe),
+    Walk,
     Blank,
     Unknown,
 }
@@ -134,6 +137,7 @@ fn parse_row(line: &str) -> Row {
             Some(p) => Row::Probe(p),
             None => Row::Unknown,
         },
+        "walk" => Row::Walk,
         _ => Row::Unknown,
     }
 }
@@ -145,6 +149,7 @@ pub(crate) fn rows_of(heap: Global, text: &str) -> Result<Result<Rows, usize>, A
         edges: Vec::new(heap),
         promises: 0,
         probe: None,
+        walk: false,
     };
     let mut at = 0usize;
     for line in text.lines() {
@@ -157,6 +162,9 @@ pub(crate) fn rows_of(heap: Global, text: &str) -> Result<Result<Rows, usize>, A
             Row::Edge(e) => rows.edges.push(e)?,
             Row::Probe(p) => {
                 rows.probe = Some(p);
+            }
+            Row::Walk => {
+                rows.walk = true;
             }
             Row::Blank => {}
             Row::Unknown => {
