@@ -13,7 +13,7 @@ use table::StateRow;
 // What the areas hold before a call.
 const OTHER: u32 = 77;
 
-pub fn state(start: bool, fulfils: u32) -> StateRow {
+pub(crate) fn state(start: bool, fulfils: u32) -> StateRow {
     StateRow {
         start,
         fulfils,
@@ -21,7 +21,7 @@ pub fn state(start: bool, fulfils: u32) -> StateRow {
     }
 }
 
-pub fn edge(from: u32, to: u32) -> EdgeRow {
+pub(crate) fn edge(from: u32, to: u32) -> EdgeRow {
     EdgeRow { from, to }
 }
 
@@ -160,7 +160,7 @@ fn agrees<P: Plant>(plant: &P, work: &mut [u32], answer: Answer) -> bool {
 }
 
 // What both calls come to, in areas that hold other numbers.
-pub fn asked<P: Plant>(plant: &P, work: &mut [u32], walk: &mut [u32]) -> Answer {
+pub(crate) fn asked<P: Plant>(plant: &P, work: &mut [u32], walk: &mut [u32]) -> Answer {
     let answer = searched(plant, work, walk);
     if agrees(plant, work, answer) {
         answer
@@ -170,7 +170,7 @@ pub fn asked<P: Plant>(plant: &P, work: &mut [u32], walk: &mut [u32]) -> Answer 
 }
 
 // The same with areas of just as many entries as are asked for, of these.
-pub fn tight<P: Plant>(plant: &P, work: &mut [u32], walk: &mut [u32]) -> Answer {
+pub(crate) fn tight<P: Plant>(plant: &P, work: &mut [u32], walk: &mut [u32]) -> Answer {
     let n = plant.states() as usize;
     let Some((work, _)) = work.split_at_mut_checked(n) else {
         return Answer::Wrong;
