@@ -1,4 +1,6 @@
 // The rule book: declared signals and eight slots for rules.
+#![tactic(auto)]
+
 mod book;
 mod declares;
 mod fit;

@@ -1,4 +1,6 @@
 // Examples of calls on a book, and of console lines.
+#![tactic(auto)]
+
 #[cfg(test)]
 mod books;
 #[cfg(test)]

@@ -1,4 +1,6 @@
 // Answers each line of the standard input, over a new book.
+#![tactic(auto)]
+
 use anyhow::anyhow;
 use book::Book;
 use protocol::{answer_text, first_line, read_input, respond};

@@ -1,4 +1,6 @@
 // What programs in other languages can call: comparisons and benchmarks go through these functions.
+#![tactic(auto)]
+
 mod counts;
 mod polish;
 mod reads;

@@ -1,4 +1,6 @@
 // Why a call is refused, and where: the whole table of refusals.
+#![tactic(auto)]
+
 mod causes;
 mod fault;
 mod layer;

@@ -1,4 +1,6 @@
 // Rule texts read into formulas: each text has at most one, and every refusal is exact.
+#![tactic(auto)]
+
 mod contents;
 mod laws;
 mod parse;

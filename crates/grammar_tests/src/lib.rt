@@ -1,4 +1,6 @@
 // Examples of rule texts: their formulas, their refusals, and what they hold.
+#![tactic(auto)]
+
 
 #[cfg(test)]
 mod tests {

@@ -1,4 +1,6 @@
 // Runs, mark words, formulas and truth: what every promise above is written in.
+#![tactic(auto)]
+
 mod basics;
 mod formula;
 mod laws;

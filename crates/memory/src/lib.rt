@@ -1,4 +1,6 @@
 // Where memory comes from. A refusal for want of memory is honest: under plenty none is given.
+#![tactic(auto)]
+
 ghost use Rattle.std.specs.Prelude.{◌≡◌, ◌≤◌, true, [], is_ok, IfOk, vec_len, vec_capacity};
 
 use std::alloc::{AllocError, AllocFailed, Global};

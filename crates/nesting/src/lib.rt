@@ -1,4 +1,6 @@
 // Code over any plant, proved once and called on joints of joints.
+#![tactic(auto)]
+
 ghost use Rattle.std.specs.Prelude.{◌≡◌, ℕ};
 ghost use Rattle.plant.specs.Meaning.{Meaning, Least};
 ghost use Rattle.joint.specs.Pair.{joint};

@@ -1,4 +1,6 @@
 // Plants: the seven questions that every plant answers, the free plant and the probe.
+#![tactic(auto)]
+
 mod free;
 mod plant;
 mod probe;

@@ -1,4 +1,6 @@
 // What plants answer on examples.
+#![tactic(auto)]
+
 #[cfg(test)]
 mod joints;
 #[cfg(test)]

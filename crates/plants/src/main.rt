@@ -1,4 +1,6 @@
 // Loads a table from the rows on the standard input, joins it with a probe, and prints both.
+#![tactic(auto)]
+
 mod rows;
 mod show;
 mod walks;

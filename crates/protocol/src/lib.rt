@@ -1,4 +1,6 @@
 // What the programs read and write: lines, what each asks for, and the bytes of each answer.
+#![tactic(auto)]
+
 mod answers;
 mod forms;
 mod input;

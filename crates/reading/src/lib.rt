@@ -1,4 +1,6 @@
 // Rule text cut into tokens. A name's token borrows the text.
+#![tactic(auto)]
+
 mod classes;
 mod front;
 mod names;

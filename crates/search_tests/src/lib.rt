@@ -1,4 +1,6 @@
 // What the search answers on examples.
+#![tactic(auto)]
+
 #[cfg(test)]
 mod areas;
 #[cfg(test)]

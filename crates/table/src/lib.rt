@@ -1,4 +1,6 @@
 // The table: a plant over rows that the caller holds for reading.
+#![tactic(auto)]
+
 mod checks;
 mod load;
 mod questions;

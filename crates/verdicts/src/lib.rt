@@ -1,2 +1,4 @@
 // Verdicts on a book over a plant.
+#![tactic(auto)]
+
 mod sheets;

@@ -1,4 +1,6 @@
 // Shows how each line of the standard input is cut into tokens, as a rule text.
+#![tactic(auto)]
+
 use protocol::{first_line, listing, read_input};
 use std::io::Write;
 
