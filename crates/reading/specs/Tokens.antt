@@ -124,7 +124,7 @@ TokenAt Always a = Unit {0}
 TokenAt Eventually a = Unit {0}
 TokenAt True a = Unit {0}
 TokenAt False a = Unit {0}
-TokenAt (Name s) a = s.ptr ≡ a
+TokenAt (Name s) a = s.ref_ptr ≡ a
 
 -- a name is the part of the text that begins at the token's place
 abbrev pub LiesAt : Result (Option Placed) (Fault WordCause) → ℕ × ℕ → Type 0

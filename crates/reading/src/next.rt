@@ -33,7 +33,7 @@ impl<'a> Reader<'a> {
     // What stands at the cursor, past blanks.
     fn look(&self) -> Look<'a>
         ensures what { look_of result ≡ lex self.now.text.now self.now.at }
-        ensures lies { LookLies result self.now.text.ptr }
+        ensures lies { LookLies result self.now.text.ref_ptr }
         ensures passes { Passes result self.now.at (length self.now.text.now) }
     {
         let text = self.text;
@@ -49,7 +49,7 @@ impl<'a> Reader<'a> {
     pub fn next(&mut self) -> Result<Option<Placed<'a>>, Fault<WordCause>>
         ensures same { self.new.text ≡ self.old.text }
         ensures answer { answer_of result self.new.at ≡ lex self.old.text.now self.old.at }
-        ensures lies { LiesAt result self.old.text.ptr }
+        ensures lies { LiesAt result self.old.text.ref_ptr }
         ensures moves { Moves result self.old.at self.new.at }
     {
         match self.look() {

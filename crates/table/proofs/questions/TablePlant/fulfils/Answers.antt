@@ -3,8 +3,8 @@ use Rattle.table.specs.StandingLawful.{granted}
 use Rattle.table.proofs.Past.{fulfils_past, promise_past}
 use Rattle.table.proofs.questions.TablePlant.fulfils.Goals as goal
 
-pub overflow-shr-result : goal.overflow-shr-result
-overflow-shr-result c =
+pub overflow_shr-result : goal.overflow_shr-result
+overflow_shr-result c =
     let g = granted c.args.self.now c.if-not-self.false in
     omega (arith, g.0.2)
 

@@ -1,4 +1,4 @@
 use Rattle.table.proofs.table.Table.over.Goals as goal
 
-pub invariant-of-result : goal.invariant-of-result
-invariant-of-result c = (∣ (λ e. c.requires) ∣₁, tt)
+pub invariant_of-result : goal.invariant_of-result
+invariant_of-result c = record { ok = ∣ (λ e. c.requires) ∣₁ }
