@@ -7,15 +7,15 @@ use Rattle.grammar.proofs.contents.survey.Goals as goal
 pub with-seen-requires : goal.with-seen-requires
 with-seen-requires c = omega (arith, c.loop-s.invariant.counted, few_ops_in c.args.text.now)
 
-pub returns-then-is-whole : goal.returns-then-is-whole
-returns-then-is-whole c =
+pub returns-then-is_whole : goal.returns-then-is_whole
+returns-then-is_whole c =
     let names = names_of c.args.names.now in
     let sofar = c.loop-s.invariant in (
-      at_end names c.args.text.now c.loop-s.s c.loop-s.at c.loop-s.seen sofar c.in-default.is ∙ c.if-is-whole.ensures names (length c.args.text.now),
-      tells names c.args.text.now c.loop-s.s c.loop-s.at c.loop-s.seen sofar c.in-default.is,
+      at_end names c.args.text.now c.loop-s.s c.loop-s.at c.loop-s.seen sofar c.in_default.is ∙ c.if-is_whole.ensures names (length c.args.text.now),
+      tells names c.args.text.now c.loop-s.s c.loop-s.at c.loop-s.seen sofar c.in_default.is,
     )
 
-pub returns-else-is-whole : goal.returns-else-is-whole
-returns-else-is-whole c =
+pub returns-else-is_whole : goal.returns-else-is_whole
+returns-else-is_whole c =
     let names = names_of c.args.names.now in
-    at_end names c.args.text.now c.loop-s.s c.loop-s.at c.loop-s.seen c.loop-s.invariant c.in-default.is ∙ c.if-is-whole.ensures names (length c.args.text.now)
+    at_end names c.args.text.now c.loop-s.s c.loop-s.at c.loop-s.seen c.loop-s.invariant c.in_default.is ∙ c.if-is_whole.ensures names (length c.args.text.now)

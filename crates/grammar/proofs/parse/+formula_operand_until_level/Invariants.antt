@@ -14,8 +14,8 @@ decreases-formula g l = left l.s.now * 5 + rung_rank (rung_of l.level)
 abbrev pub decreases-operand : goal.decreases-operand
 decreases-operand g l = left l.s.now * 5
 
-abbrev pub decreases-until-level : goal.decreases-until-level
-decreases-until-level g l = left l.s.now * 5 + 1
+abbrev pub decreases-until_level : goal.decreases-until_level
+decreases-until_level g l = left l.s.now * 5 + 1
 
 abbrev pub invariant-formula-loop-s : goal.invariant-formula-loop-s
 invariant-formula-loop-s g l = (left l.s ≤ left l.initial.s) × ((x : Stream) → Reads (names_of l.names) ors x (form_of l.initial.f) (stream_of l.initial.s) → Reads (names_of l.names) ors x (form_of l.f) (stream_of l.s)) × (2 < op_rank (stream_of l.s))
