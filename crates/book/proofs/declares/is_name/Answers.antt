@@ -11,9 +11,9 @@ returns-in-Name c =
     sym (ap (λ (t : Token). name_in (length c.args.name.now) (tok_of t)) c.in-Name.is)
     ∙ named c.args.name _ _ _ c.new-reader.ensures.0 c.new-reader.ensures.1 (ap (λ (x : Option Placed). answer_of (Ok x) c.next.new.self.at) (sym c.in-Some.is) ∙ c.in-Ok.ensures.answer)
 
-pub returns-in-default : goal.returns-in-default
-returns-in-default c =
-    no_name (length c.args.name.now) c.in-Some.p.token c.in-default.not-Name
+pub returns-in_default : goal.returns-in_default
+returns-in_default c =
+    no_name (length c.args.name.now) c.in-Some.p.token c.in_default.not-Name
     ∙ named c.args.name _ _ _ c.new-reader.ensures.0 c.new-reader.ensures.1 (ap (λ (x : Option Placed). answer_of (Ok x) c.next.new.self.at) (sym c.in-Some.is) ∙ c.in-Ok.ensures.answer)
 
 pub returns-in-None : goal.returns-in-None

@@ -9,19 +9,19 @@ use Rattle.book.proofs.book.Book.declare.Goals as goal
 pub store-requires : goal.store-requires
 store-requires g c =
     let b = c.args.self.now in
-    let few = room_for_name (vec_items b.names) (rules_of (vec_items b.slots)) c.args.name.now c.in-default.ensures in
+    let few = room_for_name (vec_items b.names) (rules_of (vec_items b.slots)) c.args.name.now c.in_default.ensures in
     let l = b.names.ok.0 in
     omega (arith, b.room)
 
-pub invariant-of-self : goal.invariant-of-self
-invariant-of-self g c =
+pub invariant_of-self : goal.invariant_of-self
+invariant_of-self g c =
     let b = c.args.self.now in
-    let few = room_for_name (vec_items b.names) (rules_of (vec_items b.slots)) c.args.name.now c.in-default.ensures in
+    let few = room_for_name (vec_items b.names) (rules_of (vec_items b.slots)) c.args.name.now c.in_default.ensures in
     let l = b.names.ok.0 in
     let told = c.store.ensures in
     let rules = together (rules_of (vec_items b.slots)) in
     let known = subst (λ (n : ℕ). below n rules ≡ true) (sym told.len) (below_more rules (vec_len b.names) b.known) in
-    (omega arith, (omega (arith, b.room), (b.eight, (b.basic, (known, tt)))))
+    record { few = omega arith; room = omega (arith, b.room); eight = b.eight; basic = b.basic; known = known }
 
 pub returns : goal.returns
 returns g c =
@@ -30,7 +30,7 @@ returns g c =
     let l = b.names.ok.0 in
     record {
       declared = (
-        sym c.in-default.ensures,
+        sym c.in_default.ensures,
         omega arith,
         ap (λ (ns : List (List ℕ)). record { names = ns; rules = rules_of (vec_items b.slots) })
             (names_push (vec_items b.names) _ c.in-Ok.copy c.args.name.now c.store.ensures.items c.in-Ok.ensures.same),

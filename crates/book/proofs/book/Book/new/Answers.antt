@@ -5,19 +5,14 @@ use Rattle.book.specs.Rules.{rules_of, together}
 use Rattle.book.proofs.Holding.{none_few}
 use Rattle.book.proofs.book.Book.new.Goals as goal
 
-pub invariant-of-result : goal.invariant-of-result
-invariant-of-result g c =
+pub invariant_of-result : goal.invariant_of-result
+invariant_of-result g c =
     let names = c.in-Ok.ensures.empty in
-    let slots = c.in-Ok-empty-slots.ensures.eight in (
-      omega arith,
-      (
-        names.2,
-        (
-          slots.1,
-          (
-            subst (λ (ss : List Slot). basics (together (rules_of ss)) ≤ 12) (sym slots.0) none_few,
-            (subst (λ (ss : List Slot). below (vec_len c.in-Ok.names) (together (rules_of ss)) ≡ true) (sym slots.0) refl, tt),
-          ),
-        ),
-      ),
-    )
+    let slots = c.in-Ok-empty_slots.ensures.eight in
+    record {
+      few = omega arith;
+      room = names.2;
+      eight = slots.1;
+      basic = subst (λ (ss : List Slot). basics (together (rules_of ss)) ≤ 12) (sym slots.0) none_few;
+      known = subst (λ (ss : List Slot). below (vec_len c.in-Ok.names) (together (rules_of ss)) ≡ true) (sym slots.0) refl;
+    }

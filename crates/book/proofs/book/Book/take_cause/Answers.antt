@@ -16,9 +16,9 @@ returns-then-fits c =
     let b = c.args.self.now in
     let v = c.in-Ok.seen in
     let eight : length (rules_of (vec_items b.slots)) ≡ 8 = omega (arith, length-map (vec_items b.slots) rule_of, b.eight, b.slots.ok.0) in
-    surveyed (state_of b) c.args.slot c.args.text.now v true _ eight c.in-default.ensures
-    (subst (λ (ns : List (Vec ℕ Global)). SurveyedAs (names_of ns) c.args.text.now (Ok v)) c.as-slice.ensures.value c.in-Ok.ensures)
-    (c.if-fits.ensures ∙ ap (λ (ss : List Slot). leb (tally 16 (λ g. get_or v.signals g false || occurs (together (rules_of ss)) g) + (v.operators + ops (together (rules_of ss)))) 12) c.as-slice-in-Ok.ensures.value)
+    surveyed (state_of b) c.args.slot c.args.text.now v true _ eight c.in_default.ensures
+    (subst (λ (ns : List (Vec ℕ Global)). SurveyedAs (names_of ns) c.args.text.now (Ok v)) c.as_slice.ensures.value c.in-Ok.ensures)
+    (c.if-fits.ensures ∙ ap (λ (ss : List Slot). leb (tally 16 (λ g. get_or v.signals g false || occurs (together (rules_of ss)) g) + (v.operators + ops (together (rules_of ss)))) 12) c.as_slice-in-Ok.ensures.value)
     refl
 
 pub returns-else-fits : goal.returns-else-fits
@@ -26,14 +26,14 @@ returns-else-fits c =
     let b = c.args.self.now in
     let v = c.in-Ok.seen in
     let eight : length (rules_of (vec_items b.slots)) ≡ 8 = omega (arith, length-map (vec_items b.slots) rule_of, b.eight, b.slots.ok.0) in
-    surveyed (state_of b) c.args.slot c.args.text.now v false _ eight c.in-default.ensures
-    (subst (λ (ns : List (Vec ℕ Global)). SurveyedAs (names_of ns) c.args.text.now (Ok v)) c.as-slice.ensures.value c.in-Ok.ensures)
-    (c.if-fits.ensures ∙ ap (λ (ss : List Slot). leb (tally 16 (λ g. get_or v.signals g false || occurs (together (rules_of ss)) g) + (v.operators + ops (together (rules_of ss)))) 12) c.as-slice-in-Ok.ensures.value)
+    surveyed (state_of b) c.args.slot c.args.text.now v false _ eight c.in_default.ensures
+    (subst (λ (ns : List (Vec ℕ Global)). SurveyedAs (names_of ns) c.args.text.now (Ok v)) c.as_slice.ensures.value c.in-Ok.ensures)
+    (c.if-fits.ensures ∙ ap (λ (ss : List Slot). leb (tally 16 (λ g. get_or v.signals g false || occurs (together (rules_of ss)) g) + (v.operators + ops (together (rules_of ss)))) 12) c.as_slice-in-Ok.ensures.value)
     refl
 
 pub returns-in-Err : goal.returns-in-Err
 returns-in-Err c =
     let b = c.args.self.now in
-    unsurveyed (state_of b) c.args.slot c.args.text.now c.in-Err.e _ c.in-default.ensures
-    (subst (λ (ns : List (Vec ℕ Global)). SurveyedAs (names_of ns) c.args.text.now (Err c.in-Err.e)) c.as-slice.ensures.value c.in-Err.ensures)
+    unsurveyed (state_of b) c.args.slot c.args.text.now c.in-Err.e _ c.in_default.ensures
+    (subst (λ (ns : List (Vec ℕ Global)). SurveyedAs (names_of ns) c.args.text.now (Err c.in-Err.e)) c.as_slice.ensures.value c.in-Err.ensures)
     (ap (λ (r : Refusal). Some r) c.unread.ensures)
