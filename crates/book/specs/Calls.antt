@@ -1,5 +1,5 @@
 -- What each call on a book comes to: its causes in their order, and what stands then. Assumes nothing.
-use Rattle.std.specs.Prelude.{◌≡◌, ℕ, Bool, cond, List, length, is_some, Some, None, Ok, Err, Option, Result, nat_le, slice_index_or}
+use Rattle.std.specs.Prelude.{◌≡◌, ℕ, cond, List, length, is_some, Some, None, Ok, Err, Option, Result, nat_le, slice_index_or}
 use Rattle.faults.specs.declared.layer.Layer.TheVariants as layers
 use Rattle.faults.specs.declared.fault.Fault.{Fault}
 use Rattle.faults.specs.declared.causes.BookCause.{BookCause}

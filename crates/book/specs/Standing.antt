@@ -1,5 +1,5 @@
 -- What stands in a book. Assumes nothing.
-use Rattle.std.specs.Prelude.{ℕ, List, [], ◌∷◌, ◌++◌, replicate, Some, None, vec_items, Option, slice_set}
+use Rattle.std.specs.Prelude.{ℕ, List, [], ◌∷◌, ◌++◌, replicate, None, vec_items, Option, slice_set}
 use Rattle.logic.specs.Form.{Form}
 use Rattle.reading.specs.Names.{names_of}
 use Rattle.book.specs.declared.book.Book.{Book}

@@ -1,5 +1,5 @@
 -- The tokens of a formula that is read, counted. Assumes nothing.
-use Rattle.std.proofs.Common.{◌≡◌, ℕ, ◌+◌, ◌<◌, ◌≤◌, Bool, true, false, cond, ◌||◌, leb, List, sym, refl, ap, ◌∙◌, arith}
+use Rattle.std.proofs.Common.{◌≡◌, ℕ, ◌+◌, ◌<◌, ◌≤◌, Bool, true, false, cond, ◌||◌, leb, List, refl, ap, ◌∙◌, arith}
 use Rattle.std.proofs.lemmas.Bool.{cond_both}
 use Rattle.std.proofs.lemmas.Bool.Decides.{nat_tests}
 use Rattle.faults.specs.declared.causes.ReadingCause.TheVariants.{ManyTokens}
@@ -8,7 +8,7 @@ use Rattle.logic.specs.Basics.{ops, occurs}
 use Rattle.reading.specs.Tokens.{Tok, open', close', and', or', implies', until', not', next', always', eventually', true', false', name'}
 use Rattle.reading.specs.Rows as rows
 use Rattle.reading.specs.Rows.{Row, row}
-use Rattle.grammar.specs.Limits.{Stream, end, stop, more, limited, tokens}
+use Rattle.grammar.specs.Limits.{Stream, stop, more, limited, tokens}
 use Rattle.grammar.specs.Grammar.{Rung, Reads, r_true, r_false, r_name, r_not, r_next, r_always, r_eventually, r_paren, r_until, r_and, r_or, r_implies, as_until, as_and, as_or, as_whole}
 use Rattle.grammar.specs.Counts.{is_temporal, is_signal, ops_in, mentions}
 

@@ -1,5 +1,5 @@
 -- Every stream is read at every level as far as it can be, or the scan refuses it. Assumes nothing.
-use Rattle.std.proofs.Common.{◌≡◌, ℕ, zero, suc, ◌+◌, ◌*◌, ◌<◌, ◌≤◌, Bool, true, false, cond, eqb, List, Some, None, Option, sym, refl, ap, ◌∙◌, arith}
+use Rattle.std.proofs.Common.{◌≡◌, ℕ, zero, suc, ◌+◌, ◌*◌, ◌<◌, ◌≤◌, true, false, cond, eqb, List, Some, None, Option, refl, ap, ◌∙◌, arith}
 use Rattle.std.proofs.lemmas.Bool.{cond-false, ne_eqb}
 use Rattle.faults.specs.declared.causes.ReadingCause.{ReadingCause}
 use Rattle.faults.specs.declared.causes.ReadingCause.TheVariants.{Misfit, Unfinished, Undeclared}

@@ -1,14 +1,14 @@
 -- What `next` answers, as the stream of tokens. Assumes nothing.
-use Rattle.std.proofs.Common.{◌≡◌, ℕ, ◌+◌, ◌-◌, ◌<◌, ◌≤◌, Bool, true, false, cond, List, [], ◌∷◌, length, is_some, Some, None, Ok, Err, Option, sym, refl, ap, ◌∙◌, subst, arith}
+use Rattle.std.proofs.Common.{◌≡◌, ℕ, ◌+◌, ◌-◌, ◌<◌, ◌≤◌, Bool, true, false, cond, List, length, is_some, Some, None, Ok, Err, Option, sym, refl, ap, ◌∙◌, subst, arith}
 use Rattle.std.proofs.lemmas.Bool.{false≢true, cond-true, cond-false}
-use Rattle.reading.specs.Tokens.{Tok, tok_of, Lexed, finished, token, refused, lex, answer_of, Moves}
+use Rattle.reading.specs.Tokens.{tok_of, Lexed, finished, token, refused, lex, answer_of, Moves}
 use Rattle.reading.specs.declared.token.Placed.{Placed}
 use Rattle.faults.specs.declared.fault.Fault.{Fault}
 use Rattle.faults.specs.declared.causes.WordCause.{WordCause}
 use Rattle.faults.specs.declared.causes.ReadingCause.TheVariants.{Words, ManyTokens}
-use Rattle.reading.specs.Rows.{Row, onward, row_from}
+use Rattle.reading.specs.Rows.{onward, row_from}
 use Rattle.reading.proofs.Rows.{row_unfolds}
-use Rattle.grammar.specs.Limits.{Stream, end, stop, more, is_too_many, tally, limited}
+use Rattle.grammar.specs.Limits.{end, stop, more, is_too_many, tally, limited}
 use Rattle.grammar.specs.Left.{one}
 
 -- a count that is given, and one that is refused

@@ -1,9 +1,9 @@
 -- What is read leaves an operand ended where one was due. Assumes nothing.
-use Rattle.std.proofs.Common.{◌≡◌, ℕ, ◌+◌, ◌-◌, Bool, true, false, cond, eqb, List, Some, None, sym, refl, ap, ◌∙◌, subst, arith}
+use Rattle.std.proofs.Common.{◌≡◌, ℕ, ◌+◌, ◌-◌, true, false, cond, eqb, List, refl, ap, ◌∙◌, arith}
 use Rattle.std.proofs.lemmas.Bool.{cond-false, ne_eqb}
 use Rattle.logic.specs.Form.{Form}
-use Rattle.grammar.specs.Limits.{Stream, more}
-use Rattle.grammar.specs.Scan.{scan, Verdict, named, refusal}
+use Rattle.grammar.specs.Limits.{Stream}
+use Rattle.grammar.specs.Scan.{scan, named, refusal}
 use Rattle.grammar.specs.Grammar.{Rung, Reads, r_true, r_false, r_name, r_not, r_next, r_always, r_eventually, r_paren, r_until, r_and, r_or, r_implies, as_until, as_and, as_or, as_whole}
 use Rattle.faults.specs.declared.causes.ReadingCause.TheVariants.{Misfit}
 

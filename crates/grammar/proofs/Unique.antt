@@ -1,6 +1,6 @@
 -- A text is at most one formula. Assumes nothing.
-use Rattle.std.proofs.Common.{◌≡◌, ℕ, zero, suc, ◌+◌, ◌*◌, ◌<◌, ◌≤◌, List, Some, None, sym, refl, ap, ◌∙◌, subst, arith}
-use Rattle.reading.specs.Tokens.{Tok, and', or', implies', until'}
+use Rattle.std.proofs.Common.{◌≡◌, ℕ, zero, suc, ◌+◌, ◌*◌, ◌<◌, ◌≤◌, List, sym, refl, ap, subst, arith}
+use Rattle.reading.specs.Tokens.{Tok, and', or', until'}
 use Rattle.grammar.specs.declared.state.Infix.{Infix}
 use Rattle.grammar.specs.declared.state.Infix.TheVariants as ops
 use Rattle.logic.specs.Form.{Form, signal, until, implies, not-form, next-form, always, eventually}

@@ -1,11 +1,11 @@
 -- A rule from its first token to its last. Assumes nothing.
-use Rattle.std.proofs.Common.{◌≡◌, ℕ, ◌<◌, true, false, List, sym, refl, ap, ◌∙◌, subst, arith}
+use Rattle.std.proofs.Common.{◌≡◌, ℕ, ◌<◌, false, List, sym, refl, ◌∙◌, subst, arith}
 use Rattle.reading.specs.Tokens.{Tok, open', close', and', or', implies', until', not', next', always', eventually', true', false', name'}
 use Rattle.faults.specs.declared.causes.ReadingCause.TheVariants.{Misfit}
 use Rattle.reading.specs.Rows.{row_from}
 use Rattle.logic.specs.Form.{Form}
-use Rattle.grammar.specs.Limits.{Stream, end, stop, more, limited, tokens}
-use Rattle.grammar.specs.Scan.{Verdict, refusal, granted, scan, verdict}
+use Rattle.grammar.specs.Limits.{Stream, end, more, limited, tokens}
+use Rattle.grammar.specs.Scan.{refusal, granted, scan, verdict}
 use Rattle.grammar.specs.Grammar.{whole, Reads, Derives}
 use Rattle.grammar.specs.Ahead.{op_rank}
 use Rattle.grammar.proofs.Through.{through}

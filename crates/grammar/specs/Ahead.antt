@@ -1,5 +1,5 @@
 -- What a reading has yet to read, and what stands ahead of it. Assumes nothing.
-use Rattle.std.specs.Prelude.{◌≡◌, ℕ, ◌+◌, true, List, length, is_some, Some, None, Ok, Err, Option, Result}
+use Rattle.std.specs.Prelude.{◌≡◌, ℕ, true, List, length, is_some, Some, None, Ok, Err, Option, Result}
 use Rattle.faults.specs.declared.causes.ReadingCause.{ReadingCause}
 use Rattle.faults.specs.declared.causes.ReadingCause.TheVariants.{Misfit}
 use Rattle.faults.specs.declared.fault.Fault.{Fault}

@@ -1,5 +1,5 @@
 -- What the public calls answer. Assumes nothing.
-use Rattle.std.specs.Prelude.{◌≡◌, ℕ, ◌<◌, Bool, false, List, Ok, Err, Result, slice_index_or}
+use Rattle.std.specs.Prelude.{◌≡◌, ℕ, ◌<◌, false, List, Ok, Err, Result, slice_index_or}
 use Rattle.faults.specs.declared.causes.ReadingCause.{ReadingCause}
 use Rattle.faults.specs.declared.fault.Fault.{Fault}
 use Rattle.logic.specs.declared.formula.Formula.{Formula}

@@ -1,10 +1,8 @@
 -- Until, one step at a time. Assumes nothing.
-use Rattle.std.proofs.Common.{ℕ, suc, ◌≤◌, ◌⊎◌, sym, subst, inl, inr, arith}
+use Rattle.std.proofs.Common.{ℕ, suc, ◌⊎◌, sym, subst, inl, inr, arith}
 use Rattle.std.proofs.lemmas.Bool.{cases_eq}
-use Rattle.logic.specs.Runs.{Run}
-use Rattle.logic.specs.Form.{Form}
 use Rattle.logic.specs.Truth.{Until, Holds}
-use Rattle.logic.specs.Laws.{Likely, Unfolding}
+use Rattle.logic.specs.Laws.{Unfolding}
 
 module _ (P Q : ℕ → Type 0) (j : ℕ) where
   pub until_now : Q j → Until P Q j

@@ -1,5 +1,5 @@
 -- The free plant: one state, a start that steps to itself and marks everything either, and no promise. Assumes nothing.
-use Rattle.std.specs.Prelude.{ℕ, Bool, true, false, ◌&&◌, ◌==◌}
+use Rattle.std.specs.Prelude.{true, false, ◌&&◌, ◌==◌}
 use Rattle.logic.specs.Marks.{all_either}
 use Rattle.plant.specs.Meaning.{Meaning}
 

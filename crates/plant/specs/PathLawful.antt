@@ -1,10 +1,10 @@
 -- A probe keeps what a plant keeps. Assumes nothing.
-use Rattle.std.specs.Prelude.{◌≡◌, ℕ, ◌+◌, ◌<◌, ◌≤◌, min, Bool, true, false, cond, ◌&&◌, ◌==◌, ◌≢◌, nat_le, nat_lt, refl}
-use Rattle.std.proofs.Common.{sym, ap, ◌∙◌, arith}
+use Rattle.std.specs.Prelude.{◌≡◌, ℕ, ◌+◌, ◌<◌, ◌≤◌, min, true, cond, ◌==◌, ◌≢◌, nat_le, nat_lt}
+use Rattle.std.proofs.Common.{sym, ◌∙◌, arith}
 use Rattle.std.proofs.lemmas.Bool.{true≢false, false≢true, and_parts, eqb-true, ltb-true, leb-true, ne_eqb, cond_both, cond-false}
 use Rattle.logic.specs.Marks.{all_either, Whole}
 use Rattle.logic.proofs.Words.{mark_word_at, all_either_whole}
-use Rattle.plant.specs.Meaning.{Meaning, Lawful}
+use Rattle.plant.specs.Meaning.{Lawful}
 use Rattle.plant.specs.Unfit.{unfit, unfit_lawful}
 use Rattle.plant.specs.Path.{value_mark, only, path, path_fits, probe}
 use Rattle.plant.specs.declared.probe.Value.{Value}

@@ -5,7 +5,6 @@ use mathlib.Core.HLevel.{Π_prop, ⊥_prop, ×_prop, ×₃_prop}
 use Rattle.std.proofs.Math.Bridge.{le_prop}
 use Rattle.plant.specs.Meaning.{Lawful}
 use Rattle.plant.specs.Unfit.{unfit_lawful}
-use Rattle.table.specs.Rows.{table}
 use Rattle.table.specs.Loads.{Granted}
 use Rattle.table.specs.TableLawful.{table_lawful}
 use Rattle.table.specs.Standing.{loaded_table, means}

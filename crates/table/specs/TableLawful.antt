@@ -1,10 +1,10 @@
 -- Rows that a load grants keep what a plant keeps. Assumes nothing.
-use Rattle.std.specs.Prelude.{◌≡◌, ℕ, zero, suc, ◌/◌, ◌%◌, ◌^◌, ◌<◌, ◌≤◌, Bool, true, false, ◌&&◌, ◌||◌, List, [], ◌∷◌, length, ◌==◌, nat_eq, refl}
-use Rattle.std.proofs.Common.{sym, ap, ◌∙◌, inl, inr, arith}
+use Rattle.std.specs.Prelude.{◌≡◌, ℕ, suc, ◌%◌, ◌^◌, ◌<◌, ◌≤◌, true, false, ◌&&◌, List, [], ◌∷◌, length, ◌==◌, nat_eq}
+use Rattle.std.proofs.Common.{ap, ◌∙◌, inl, inr, arith}
 use Rattle.std.proofs.Math.Nat.{zero-div}
 use Rattle.std.proofs.lemmas.List.{get_or_past}
 use Rattle.std.proofs.lemmas.Bool.{true≢false, false≢true, cases_lt, and_parts, or_cases, eqb-true, both_ways}
-use Rattle.plant.specs.Meaning.{Meaning, Lawful}
+use Rattle.plant.specs.Meaning.{Lawful}
 use Rattle.table.specs.Rows.{row, edge, no_row, bit, has_edge, table}
 use Rattle.table.specs.Loads.{GoodEdge, Granted}
 use Rattle.table.specs.declared.rows.StateRow.{StateRow}

@@ -1,4 +1,4 @@
-use Rattle.std.proofs.Common.{◌≡◌, ap, ◌∙◌, subst}
+use Rattle.std.proofs.Common.{ap, ◌∙◌, subst}
 use Rattle.plant.specs.Meaning.{Meaning, Least}
 use Rattle.joint.specs.Pair.{joint}
 use Rattle.nesting.proofs.first_start_of_three.Goals as goal

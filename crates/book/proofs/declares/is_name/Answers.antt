@@ -1,4 +1,4 @@
-use Rattle.std.proofs.Common.{◌≡◌, Bool, length, Ok, Option, Result, sym, ap, ◌∙◌}
+use Rattle.std.proofs.Common.{length, Ok, Option, sym, ap, ◌∙◌}
 use Rattle.reading.specs.Tokens.{answer_of, tok_of}
 use Rattle.reading.specs.declared.token.Placed.{Placed}
 use Rattle.reading.specs.declared.token.Token.{Token}

@@ -1,5 +1,5 @@
 use Rattle.std.proofs.Common.{ℕ, List, sym, refl, arith}
-use Rattle.reading.specs.Tokens.{open', and', or', implies', until', true', false', name'}
+use Rattle.reading.specs.Tokens.{and', or', implies', until', true', false', name'}
 use Rattle.grammar.specs.declared.state.Infix.TheVariants as ops
 use Rattle.grammar.specs.declared.parse.Level.TheVariants as levels
 use Rattle.reading.specs.Names.{names_of}

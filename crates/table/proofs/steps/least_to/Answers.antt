@@ -1,4 +1,4 @@
-use Rattle.std.proofs.Common.{◌≡◌, ℕ, ◌+◌, Bool, ◌&&◌, ◌||◌, List, length, get_or, take, Some, Option, sym, ap, ◌∙◌, subst, arith, take_all}
+use Rattle.std.proofs.Common.{ℕ, ◌+◌, List, get_or, take, Some, Option, sym, ap, ◌∙◌, subst, arith, take_all}
 use Rattle.plant.specs.Meaning.{Least}
 use Rattle.table.specs.Rows.{has_edge, no_edge}
 use Rattle.table.specs.declared.rows.EdgeRow.{EdgeRow}

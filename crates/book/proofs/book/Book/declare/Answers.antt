@@ -1,7 +1,6 @@
 use Rattle.std.proofs.Common.{◌≡◌, ℕ, true, List, vec_items, vec_len, sym, refl, ap, subst, arith}
 use Rattle.logic.specs.Basics.{below}
 use Rattle.book.specs.Rules.{rules_of, together}
-use Rattle.book.specs.Standing.{State}
 use Rattle.book.proofs.Holding.{names_long, names_push, room_for_name}
 use Rattle.book.proofs.Sets.{below_more}
 use Rattle.book.proofs.book.Book.declare.Goals as goal

@@ -1,16 +1,14 @@
-use Rattle.std.proofs.Common.{◌≡◌, ℕ, ◌≤◌, true, false, List, length, Some, None, Ok, Err, vec_items, vec_len, Option, Vec, sym, refl, ap, ◌∙◌, subst, arith}
+use Rattle.std.proofs.Common.{◌≡◌, ℕ, ◌≤◌, true, List, length, Some, None, vec_items, vec_len, Option, Vec, sym, refl, ap, ◌∙◌, subst, arith}
 use Rattle.std.specs.declared.alloc.Global.{Global}
 use Rattle.std.proofs.lemmas.List.{map-set}
 use Rattle.faults.specs.Refusals.{Refusal, book_refusal}
 use Rattle.logic.specs.Form.{Form, form_of}
 use Rattle.logic.specs.Basics.{basics, below}
 use Rattle.reading.specs.Names.{names_of}
-use Rattle.grammar.specs.Answers.{ReadAs}
 use Rattle.grammar.specs.Grammar.{Derives}
 use Rattle.book.specs.declared.slot.Slot.TheVariants.{Standing}
 use Rattle.book.specs.Rules.{rule_of, rules_of, together}
 use Rattle.book.specs.Standing.{state_of}
-use Rattle.book.specs.Calls.{TakeCause}
 use Rattle.book.proofs.Holding.{names_long}
 use Rattle.book.proofs.Known.{derived_below}
 use Rattle.book.proofs.Sets.{below_set}

@@ -1,4 +1,4 @@
-use Rattle.std.proofs.Common.{◌≡◌, ℕ, ◌+◌, Bool, true, false, ◌||◌, leb, List, length, get_or, Some, Ok, Err, vec_items, Vec, refl, ap, ◌∙◌, subst, arith}
+use Rattle.std.proofs.Common.{◌≡◌, ℕ, ◌+◌, true, false, ◌||◌, leb, List, length, get_or, Some, Ok, Err, vec_items, Vec, refl, ap, ◌∙◌, subst, arith}
 use lib.ListN.{length-map}
 use Rattle.std.specs.declared.alloc.Global.{Global}
 use Rattle.faults.specs.Refusals.{Refusal}

@@ -1,4 +1,4 @@
-use Rattle.std.proofs.Common.{refl, arith, length-drop, length-take}
+use Rattle.std.proofs.Common.{arith, length-drop, length-take}
 use Rattle.reading.specs.Tokens.{nothing, some, bad, tok_of}
 use Rattle.reading.proofs.Whole.{lexed, at_place}
 use Rattle.reading.proofs.reader.Reader.look.Goals as goal

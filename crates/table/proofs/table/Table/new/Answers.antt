@@ -1,4 +1,4 @@
-use Rattle.std.proofs.Common.{ℕ, arith}
+use Rattle.std.proofs.Common.{arith}
 use Rattle.table.proofs.table.Table.new.Goals as goal
 
 -- no rows and no promises are granted
