@@ -1,5 +1,5 @@
 -- What a listing has so far, and what is to come. Assumes nothing.
-use Rattle.std.proofs.Common.{◌≡◌, ℕ, List, [], ◌∷◌, ◌++◌, sym, refl, ap, ◌∙◌, append_assoc}
+use Rattle.std.proofs.Common.{◌≡◌, ℕ, List, ◌++◌, sym, ap, ◌∙◌, append_assoc}
 use Rattle.reading.specs.Tokens.{Tok}
 use Rattle.reading.specs.Rows.{Row, more}
 use Rattle.protocol.specs.Listings.{token_line, listed}

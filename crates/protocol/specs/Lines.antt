@@ -1,5 +1,5 @@
 -- How an input is cut into lines. Assumes nothing.
-use Rattle.std.specs.Prelude.{◌≡◌, ℕ, ◌+◌, Bool, not, List, [], length, take, drop, Some, None, Option, ◌==◌, ◌≢◌}
+use Rattle.std.specs.Prelude.{◌≡◌, ℕ, ◌+◌, Bool, not, List, [], take, drop, Some, None, Option, ◌==◌, ◌≢◌}
 use Rattle.std.specs.List.{prefix_len}
 use Rattle.protocol.specs.declared.input.Cut.{Cut}
 

@@ -1,5 +1,5 @@
 -- What is written of the tokens of a text: a line for each, with its place and its kind. Assumes nothing.
-use Rattle.std.specs.Prelude.{ℕ, List, [], ◌++◌, codes, decimal}
+use Rattle.std.specs.Prelude.{ℕ, List, ◌++◌, codes, decimal}
 use Rattle.faults.specs.Numbers.{word_number}
 use Rattle.reading.specs.Tokens.{Tok, open', close', and', or', implies', until', not', next', always', eventually', true', false', name'}
 use Rattle.reading.specs.Rows.{Row, ends, stops, more}

@@ -1,5 +1,5 @@
 -- The answer to a line is that of the call that it asks for. Assumes nothing.
-use Rattle.std.specs.Prelude.{◌≡◌, ℕ, true, List, length, is_ok, None, Result}
+use Rattle.std.specs.Prelude.{◌≡◌, ℕ, true, is_ok, None, Result}
 use Rattle.std.specs.declared.result.Result.TheVariants as results
 use Rattle.faults.specs.declared.causes.BookCause.{BookCause}
 use Rattle.faults.specs.declared.causes.ConsoleCause.TheVariants.{Book, NoForm}

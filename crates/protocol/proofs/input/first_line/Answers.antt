@@ -5,18 +5,18 @@ use Rattle.protocol.specs.Lines.{in_line}
 use Rattle.protocol.proofs.Cutting.{is_empty, not_empty, front_part, past_feed, past_end}
 use Rattle.protocol.proofs.input.first_line.Goals as goal
 
-pub returns-then-is-empty : goal.returns-then-is-empty
-returns-then-is-empty c = record { cuts = is_empty c.args.input.now c.if-is-empty.ensures; shorter = tt }
+pub returns-then-is_empty : goal.returns-then-is_empty
+returns-then-is_empty c = record { cuts = is_empty c.args.input.now c.if-is_empty.ensures; shorter = tt }
 
 pub returns-then-n-input : goal.returns-then-n-input
 returns-then-n-input c =
     let s = c.args.input.now in
-    let told = c.leading-of-n.ensures.count in
+    let told = c.leading_of-n.ensures.count in
     record {
       cuts = (
-        not_empty s c.if-is-empty.ensures,
-        front_part s c.leading-of-n.result (prefix_len in_line s) told,
-        past_feed s c.leading-of-n.result (prefix_len in_line s) told,
+        not_empty s c.if-is_empty.ensures,
+        front_part s c.leading_of-n.result (prefix_len in_line s) told,
+        past_feed s c.leading_of-n.result (prefix_len in_line s) told,
       );
       shorter = simp (length-take, length-drop) (omega arith);
     }
@@ -24,13 +24,13 @@ returns-then-n-input c =
 pub returns-else-n-input : goal.returns-else-n-input
 returns-else-n-input c =
     let s = c.args.input.now in
-    let told = c.leading-of-n.ensures.count in
-    let some = eqb-false (length s) 0 (sym c.if-is-empty.ensures) in
+    let told = c.leading_of-n.ensures.count in
+    let some = eqb-false (length s) 0 (sym c.if-is_empty.ensures) in
     record {
       cuts = (
-        not_empty s c.if-is-empty.ensures,
-        front_part s c.leading-of-n.result (prefix_len in_line s) told,
-        past_end s c.leading-of-n.result (prefix_len in_line s) told c.if-n-input.false,
+        not_empty s c.if-is_empty.ensures,
+        front_part s c.leading_of-n.result (prefix_len in_line s) told,
+        past_end s c.leading_of-n.result (prefix_len in_line s) told c.if-n-input.false,
       );
       shorter = simp (length-take, length-drop) (omega arith);
     }

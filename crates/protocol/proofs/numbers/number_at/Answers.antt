@@ -4,5 +4,5 @@ use Rattle.protocol.proofs.numbers.number_at.Goals as goal
 
 pub returns : goal.returns
 returns c =
-    few_digits c.args.text.now c.leading-of-n.result _ c.value-of.result _ c.leading-of-n.ensures.count c.if-n-eq0.false
-    c.if-n-gt-MOST-DIGITS.false c.value-of.ensures refl
+    few_digits c.args.text.now c.leading_of-n.result _ c.value_of.result _ c.leading_of-n.ensures.count c.if-n-eq0.false
+    c.if-n-gt-MOST_DIGITS.false c.value_of.ensures refl

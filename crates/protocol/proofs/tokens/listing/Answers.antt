@@ -1,4 +1,4 @@
-use Rattle.std.proofs.Common.{◌≡◌, ℕ, ◌≤◌, List, length, vec_items, ap, ◌∙◌, subst}
+use Rattle.std.proofs.Common.{ℕ, ◌≤◌, List, length, vec_items, ap, ◌∙◌, subst}
 use Rattle.reading.specs.Tokens.{tok_of, lex}
 use Rattle.reading.specs.Rows.{ends, stops}
 use Rattle.reading.proofs.Rows.{row_token, row_ends, row_stops}
@@ -16,7 +16,7 @@ loop-next-preserved c =
       ap (λ t. t.now) told.same ∙ same,
       one_more (vec_items c.loop-next.out) (tok_of p.token) p.place
           (row_token text r.at c.next.new.self.at within c.in-Ok.next p c.in-Some.is (told.answer ∙ ap (λ (t : List ℕ). lex t r.at) same))
-          c.in-ok-put-token.ensures c.loop-next.invariant.1,
+          c.in_ok-put_token-in-Some.ensures c.loop-next.invariant.1,
     )
 
 pub returns-in-None : goal.returns-in-None
@@ -27,7 +27,7 @@ returns-in-None c =
     let within : r.at ≤ length text = subst (λ (t : List ℕ). r.at ≤ length t) same r.within in
     last (vec_items c.loop-next.out) (ends (length text))
     (row_ends text r.at c.next.new.self.at within c.in-Ok.next c.in-None.is (c.in-Ok.ensures.answer ∙ ap (λ (t : List ℕ). lex t r.at) same))
-    c.in-ok-put-end.ensures c.loop-next.invariant.1
+    c.in_ok-put_end-in-None.ensures c.loop-next.invariant.1
 
 pub returns-in-Err : goal.returns-in-Err
 returns-in-Err c =
@@ -38,4 +38,4 @@ returns-in-Err c =
     let within : r.at ≤ length text = subst (λ (t : List ℕ). r.at ≤ length t) same r.within in
     last (vec_items c.loop-next.out) (stops e.cause e.place)
     (row_stops text r.at c.next.new.self.at within e (c.in-Err.ensures.answer ∙ ap (λ (t : List ℕ). lex t r.at) same))
-    c.in-ok-put-fault.ensures c.loop-next.invariant.1
+    c.in_ok-put_fault-in-Err.ensures c.loop-next.invariant.1

@@ -7,6 +7,6 @@ use Rattle.protocol.proofs.tokens.put_token.Goals as goal
 pub returns : goal.returns
 returns c =
     four_parts (vec_items c.args.out.now) _ c.kind.result.0.now c.kind.result.1.now (codes "\n") (decimal c.args.placed.place) (codes " ") (kind_text (tok_of c.args.placed.token))
-    (c.as-bytes.ensures.value ∙ c.in-ok-front.ensures.ok) c.kind.ensures
-    c.in-ok-extend-from-slice.ensures.items c.in-ok-extend-from-slice-2.ensures.items
-    c.in-ok-extend-from-slice-3.ensures.items c.in-ok-extend-from-slice-4.ensures.items
+    (c.as_bytes.ensures.value ∙ c.in_ok-front.ensures.ok) c.kind.ensures
+    c.in_ok-extend_from_slice.ensures.items c.in_ok-extend_from_slice-2.ensures.items
+    c.in_ok-extend_from_slice-3.ensures.items c.in_ok-extend_from_slice-4.ensures.items
