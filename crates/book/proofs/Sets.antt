@@ -1,7 +1,7 @@
 -- What putting a rule in, or taking one out, does to the basics. Assumes nothing.
 use Rattle.std.proofs.Common.{◌≡◌, ℕ, zero, suc, ◌+◌, ◌<◌, ◌≤◌, Bool, true, false, ◌&&◌, ◌||◌, List, [], ◌∷◌, length, get_or, set, Some, None, Option, sym, refl, ap, ◌∙◌, arith}
 use Rattle.std.proofs.lemmas.Bool.{ltb-true, lt-ltb, and_parts, and_from}
-use Rattle.logic.specs.Form.{Form, yes-form, no-form, signal, not-form, next-form, always, eventually, and-form, or-form, implies, until}
+use Rattle.logic.specs.Form.{Form, yes_form, no_form, signal, not_form, next_form, always, eventually, and_form, or_form, implies, until}
 use Rattle.logic.specs.Basics.{occurs, ops, below, signals, basics, tally}
 use Rattle.book.specs.Rules.{together}
 use Rattle.book.proofs.Tallies.{tally_same, tally_le}
@@ -75,15 +75,15 @@ both : (a b c d : Bool) → (a ≡ true → c ≡ true) → (b ≡ true → d �
 both a b c d h k e = let p = and_parts a b e in and_from c d (h p.0) (k p.1)
 
 pub below_more : (f : Form) (n : ℕ) → below n f ≡ true → below (n + 1) f ≡ true
-below_more yes-form n e = refl
-below_more no-form n e = refl
+below_more yes_form n e = refl
+below_more no_form n e = refl
 below_more (signal k) n e = lt-ltb k (n + 1) (omega (arith, ltb-true k n e))
-below_more (not-form f) n e = below_more f n e
-below_more (next-form f) n e = below_more f n e
+below_more (not_form f) n e = below_more f n e
+below_more (next_form f) n e = below_more f n e
 below_more (always f) n e = below_more f n e
 below_more (eventually f) n e = below_more f n e
-below_more (and-form f g) n e = both _ _ _ _ (below_more f n) (below_more g n) e
-below_more (or-form f g) n e = both _ _ _ _ (below_more f n) (below_more g n) e
+below_more (and_form f g) n e = both _ _ _ _ (below_more f n) (below_more g n) e
+below_more (or_form f g) n e = both _ _ _ _ (below_more f n) (below_more g n) e
 below_more (implies f g) n e = both _ _ _ _ (below_more f n) (below_more g n) e
 below_more (until f g) n e = both _ _ _ _ (below_more f n) (below_more g n) e
 

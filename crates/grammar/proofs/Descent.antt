@@ -3,7 +3,7 @@ use Rattle.std.proofs.Common.{◌≡◌, ℕ, zero, suc, ◌+◌, ◌*◌, ◌<�
 use Rattle.std.proofs.lemmas.Bool.{cond-false, ne_eqb}
 use Rattle.faults.specs.declared.causes.ReadingCause.{ReadingCause}
 use Rattle.faults.specs.declared.causes.ReadingCause.TheVariants.{Misfit, Unfinished, Undeclared}
-use Rattle.logic.specs.Form.{Form, yes-form, no-form, signal, not-form, next-form, always, eventually}
+use Rattle.logic.specs.Form.{Form, yes_form, no_form, signal, not_form, next_form, always, eventually}
 use Rattle.reading.specs.Tokens.{Tok, open', close', and', or', implies', until', not', next', always', eventually', true', false', name'}
 use Rattle.grammar.specs.declared.state.Infix.{Infix}
 use Rattle.grammar.specs.declared.state.Infix.TheVariants as ops
@@ -122,12 +122,12 @@ module _ (names : List (List ℕ)) where
   at_atom (more or' p s) ih in' = wrong Misfit p (λ d. refl)
   at_atom (more implies' p s) ih in' = wrong Misfit p (λ d. refl)
   at_atom (more until' p s) ih in' = wrong Misfit p (λ d. refl)
-  at_atom (more not' p s) ih in' = prefixed not' p not-form (λ f u r. r_not r) (λ d. refl) (ih s (omega arith))
-  at_atom (more next' p s) ih in' = prefixed next' p next-form (λ f u r. r_next r) (λ d. refl) (ih s (omega arith))
+  at_atom (more not' p s) ih in' = prefixed not' p not_form (λ f u r. r_not r) (λ d. refl) (ih s (omega arith))
+  at_atom (more next' p s) ih in' = prefixed next' p next_form (λ f u r. r_next r) (λ d. refl) (ih s (omega arith))
   at_atom (more always' p s) ih in' = prefixed always' p always (λ f u r. r_always r) (λ d. refl) (ih s (omega arith))
   at_atom (more eventually' p s) ih in' = prefixed eventually' p eventually (λ f u r. r_eventually r) (λ d. refl) (ih s (omega arith))
-  at_atom (more true' p s) ih in' = taken yes-form s r_true (some_rank s)
-  at_atom (more false' p s) ih in' = taken no-form s r_false (some_rank s)
+  at_atom (more true' p s) ih in' = taken yes_form s r_true (some_rank s)
+  at_atom (more false' p s) ih in' = taken no_form s r_false (some_rank s)
   at_atom (more (name' w) p s) ih in' = a_name w p s (signal_named names w) refl
 
   -- ---- the operator t at the level l, over operands of the level k

@@ -3,7 +3,7 @@ use Rattle.std.proofs.Common.{◌≡◌, ℕ, zero, suc, ◌+◌, ◌*◌, ◌<�
 use Rattle.reading.specs.Tokens.{Tok, and', or', until'}
 use Rattle.grammar.specs.declared.state.Infix.{Infix}
 use Rattle.grammar.specs.declared.state.Infix.TheVariants as ops
-use Rattle.logic.specs.Form.{Form, signal, until, implies, not-form, next-form, always, eventually}
+use Rattle.logic.specs.Form.{Form, signal, until, implies, not_form, next_form, always, eventually}
 use Rattle.grammar.specs.Limits.{Stream, end, stop, more, tokens}
 use Rattle.grammar.specs.Grammar.{Rung, atom, untils, ands, ors, whole, Reads, r_true, r_false, r_name, r_not, r_next, r_always, r_eventually, r_paren, r_until, r_and, r_or, r_implies, as_until, as_and, as_or, as_whole, Derives}
 use Rattle.grammar.specs.Ahead.{op_rank, infix_form}
@@ -97,8 +97,8 @@ module _ (names : List (List ℕ)) where
   at_atom s ih in' f g u v r_true r_true = (refl, refl)
   at_atom s ih in' f g u v r_false r_false = (refl, refl)
   at_atom s ih in' f g u v (r_name {g = i} e) (r_name {g = j} e') = let same : i ≡ j = cc in (ap signal same, refl)
-  at_atom s ih in' f g u v (r_not r) (r_not q) = let same = ih _ (omega arith) _ _ _ _ r q (some_rank u) (some_rank v) in (ap not-form same.0, same.1)
-  at_atom s ih in' f g u v (r_next r) (r_next q) = let same = ih _ (omega arith) _ _ _ _ r q (some_rank u) (some_rank v) in (ap next-form same.0, same.1)
+  at_atom s ih in' f g u v (r_not r) (r_not q) = let same = ih _ (omega arith) _ _ _ _ r q (some_rank u) (some_rank v) in (ap not_form same.0, same.1)
+  at_atom s ih in' f g u v (r_next r) (r_next q) = let same = ih _ (omega arith) _ _ _ _ r q (some_rank u) (some_rank v) in (ap next_form same.0, same.1)
   at_atom s ih in' f g u v (r_always r) (r_always q) = let same = ih _ (omega arith) _ _ _ _ r q (some_rank u) (some_rank v) in (ap always same.0, same.1)
   at_atom s ih in' f g u v (r_eventually r) (r_eventually q) = let same = ih _ (omega arith) _ _ _ _ r q (some_rank u) (some_rank v) in (ap eventually same.0, same.1)
   at_atom s ih in' f g u v (r_paren r) (r_paren q) =

@@ -6,7 +6,7 @@ use Rattle.faults.specs.declared.fault.Fault.{Fault}
 use Rattle.reading.specs.Tokens.{Tok, open', close', and', or', implies', until', not', next', always', eventually', true', false', name', tok_of}
 use Rattle.reading.specs.Rows.{row_from}
 use Rattle.reading.specs.declared.token.Placed.{Placed}
-use Rattle.logic.specs.Form.{Form, not-form, next-form, always, eventually, and-form, or-form, implies, until}
+use Rattle.logic.specs.Form.{Form, not_form, next_form, always, eventually, and_form, or_form, implies, until}
 use Rattle.grammar.specs.declared.state.State.{State}
 use Rattle.grammar.specs.declared.state.Infix.{Infix}
 use Rattle.grammar.specs.declared.state.Infix.TheVariants as ops
@@ -78,15 +78,15 @@ prefix_tok pre.Always = always'
 prefix_tok pre.Eventually = eventually'
 
 abbrev pub prefix_form : Prefix → Form → Form
-prefix_form pre.Not f = not-form f
-prefix_form pre.Next f = next-form f
+prefix_form pre.Not f = not_form f
+prefix_form pre.Next f = next_form f
 prefix_form pre.Always f = always f
 prefix_form pre.Eventually f = eventually f
 
 abbrev pub infix_form : Infix → Form → Form → Form
 infix_form ops.Implies f g = implies f g
-infix_form ops.Or f g = or-form f g
-infix_form ops.And f g = and-form f g
+infix_form ops.Or f g = or_form f g
+infix_form ops.And f g = and_form f g
 infix_form ops.Until f g = until f g
 infix_form ops.Other f g = f
 

@@ -1,6 +1,6 @@
 -- Which formula a text is. Prefix words bind tightest, then `until`, `&`, `|`, `->`; `until` and `->` group to the right, `&` and `|` to the left. Assumes nothing.
 use Rattle.std.specs.Prelude.{◌≡◌, ℕ, List, Some}
-use Rattle.logic.specs.Form.{Form, yes-form, no-form, signal, not-form, next-form, always, eventually, and-form, or-form, implies, until}
+use Rattle.logic.specs.Form.{Form, yes_form, no_form, signal, not_form, next_form, always, eventually, and_form, or_form, implies, until}
 use Rattle.reading.specs.Tokens.{open', close', and', or', implies', until', not', next', always', eventually', true', false', name'}
 use Rattle.grammar.specs.Signals.{signal_named}
 use Rattle.grammar.specs.Limits.{Stream, end, more, tokens}
@@ -11,17 +11,17 @@ pub data Rung : Type 0 where
 
 -- Reads names l s f u: the front of s is the formula f of the level l, and u follows it
 pub data Reads (names : List (List ℕ)) : Rung → Stream → Form → Stream → Type 0 where
-  r_true : {p : ℕ} {s : Stream} → Reads names atom (more true' p s) yes-form s
-  r_false : {p : ℕ} {s : Stream} → Reads names atom (more false' p s) no-form s
+  r_true : {p : ℕ} {s : Stream} → Reads names atom (more true' p s) yes_form s
+  r_false : {p : ℕ} {s : Stream} → Reads names atom (more false' p s) no_form s
   r_name : {w : List ℕ} {g p : ℕ} {s : Stream} → signal_named names w ≡ Some g → Reads names atom (more (name' w) p s) (signal g) s
-  r_not : {p : ℕ} {s u : Stream} {f : Form} → Reads names atom s f u → Reads names atom (more not' p s) (not-form f) u
-  r_next : {p : ℕ} {s u : Stream} {f : Form} → Reads names atom s f u → Reads names atom (more next' p s) (next-form f) u
+  r_not : {p : ℕ} {s u : Stream} {f : Form} → Reads names atom s f u → Reads names atom (more not' p s) (not_form f) u
+  r_next : {p : ℕ} {s u : Stream} {f : Form} → Reads names atom s f u → Reads names atom (more next' p s) (next_form f) u
   r_always : {p : ℕ} {s u : Stream} {f : Form} → Reads names atom s f u → Reads names atom (more always' p s) (always f) u
   r_eventually : {p : ℕ} {s u : Stream} {f : Form} → Reads names atom s f u → Reads names atom (more eventually' p s) (eventually f) u
   r_paren : {p q : ℕ} {s u : Stream} {f : Form} → Reads names whole s f (more close' q u) → Reads names atom (more open' p s) f u
   r_until : {p : ℕ} {s u v : Stream} {f g : Form} → Reads names atom s f (more until' p u) → Reads names untils u g v → Reads names untils s (until f g) v
-  r_and : {p : ℕ} {s u v : Stream} {f g : Form} → Reads names ands s f (more and' p u) → Reads names untils u g v → Reads names ands s (and-form f g) v
-  r_or : {p : ℕ} {s u v : Stream} {f g : Form} → Reads names ors s f (more or' p u) → Reads names ands u g v → Reads names ors s (or-form f g) v
+  r_and : {p : ℕ} {s u v : Stream} {f g : Form} → Reads names ands s f (more and' p u) → Reads names untils u g v → Reads names ands s (and_form f g) v
+  r_or : {p : ℕ} {s u v : Stream} {f g : Form} → Reads names ors s f (more or' p u) → Reads names ands u g v → Reads names ors s (or_form f g) v
   r_implies : {p : ℕ} {s u v : Stream} {f g : Form} → Reads names ors s f (more implies' p u) → Reads names whole u g v → Reads names whole s (implies f g) v
   as_until : {s u : Stream} {f : Form} → Reads names atom s f u → Reads names untils s f u
   as_and : {s u : Stream} {f : Form} → Reads names untils s f u → Reads names ands s f u

@@ -4,7 +4,7 @@ use Rattle.faults.specs.Numbers.{reading_number}
 use Rattle.faults.specs.declared.causes.ReadingCause.{ReadingCause}
 use Rattle.faults.specs.declared.causes.ReadingCause.TheVariants.{Words, Misfit, Unfinished, ManyTokens}
 use Rattle.faults.specs.declared.causes.WordCause.TheVariants.{NoToken}
-use Rattle.logic.specs.Form.{Form, signal, not-form, and-form, until}
+use Rattle.logic.specs.Form.{Form, signal, not_form, and_form, until}
 use Rattle.logic.specs.Basics.{basics}
 use Rattle.grammar.specs.Scan.{granted, refusal, verdict}
 use Rattle.grammar.specs.Grammar.{Derives}
@@ -36,7 +36,7 @@ HasBasics text n = (verdict pqr text ≡ granted) × ((f : Form) × Derives pqr 
 
 pub record Samples : Type 0 where
   pub until_to_the_right : Derives pqr (codes "p until q until r") (until p (until q r))
-  pub prefix_binds_tightest : Derives pqr (codes "not p until q & r") (and-form (until (not-form p) q) r)
+  pub prefix_binds_tightest : Derives pqr (codes "not p until q & r") (and_form (until (not_form p) q) r)
   pub empty : RefusedFor (codes "") Unfinished 4 0
   pub left_open : RefusedFor (codes "( p") Unfinished 4 3
   pub two_operands : RefusedFor (codes "p q") Misfit 3 2

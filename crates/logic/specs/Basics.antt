@@ -1,32 +1,32 @@
 -- The basics of rules: the signals that occur in them, and their operators that look ahead. Assumes nothing.
 use Rattle.std.specs.Prelude.{ℕ, zero, suc, ◌+◌, ◌-◌, Bool, true, false, cond, ◌&&◌, ◌||◌, List, [], ◌∷◌, Some, None, Option, ◌==◌, nat_le, nat_lt}
-use Rattle.logic.specs.Form.{Form, yes-form, no-form, signal, not-form, next-form, always, eventually, and-form, or-form, implies, until}
+use Rattle.logic.specs.Form.{Form, yes_form, no_form, signal, not_form, next_form, always, eventually, and_form, or_form, implies, until}
 
 -- the signal g occurs in the formula
 abbrev pub occurs : Form → ℕ → Bool
-occurs yes-form g = false
-occurs no-form g = false
+occurs yes_form g = false
+occurs no_form g = false
 occurs (signal h) g = h == g
-occurs (not-form f) g = occurs f g
-occurs (next-form f) g = occurs f g
+occurs (not_form f) g = occurs f g
+occurs (next_form f) g = occurs f g
 occurs (always f) g = occurs f g
 occurs (eventually f) g = occurs f g
-occurs (and-form e f) g = occurs e g || occurs f g
-occurs (or-form e f) g = occurs e g || occurs f g
+occurs (and_form e f) g = occurs e g || occurs f g
+occurs (or_form e f) g = occurs e g || occurs f g
 occurs (implies e f) g = occurs e g || occurs f g
 occurs (until e f) g = occurs e g || occurs f g
 
 -- how many occurrences of `next`, `until`, `always` and `eventually`
 abbrev pub ops : Form → ℕ
-ops yes-form = 0
-ops no-form = 0
+ops yes_form = 0
+ops no_form = 0
 ops (signal g) = 0
-ops (not-form f) = ops f
-ops (next-form f) = ops f + 1
+ops (not_form f) = ops f
+ops (next_form f) = ops f + 1
 ops (always f) = ops f + 1
 ops (eventually f) = ops f + 1
-ops (and-form f g) = ops f + ops g
-ops (or-form f g) = ops f + ops g
+ops (and_form f g) = ops f + ops g
+ops (or_form f g) = ops f + ops g
 ops (implies f g) = ops f + ops g
 ops (until f g) = ops f + 1 + ops g
 
@@ -49,20 +49,20 @@ basics f = signals f + ops f
 
 -- the rules together, one after another
 abbrev pub all : List Form → Form
-all [] = yes-form
-all (r ∷ rs) = and-form r (all rs)
+all [] = yes_form
+all (r ∷ rs) = and_form r (all rs)
 
 -- every signal that occurs has a number below n
 abbrev pub below : ℕ → Form → Bool
-below n yes-form = true
-below n no-form = true
+below n yes_form = true
+below n no_form = true
 below n (signal g) = nat_lt g n
-below n (not-form f) = below n f
-below n (next-form f) = below n f
+below n (not_form f) = below n f
+below n (next_form f) = below n f
 below n (always f) = below n f
 below n (eventually f) = below n f
-below n (and-form f g) = below n f && below n g
-below n (or-form f g) = below n f && below n g
+below n (and_form f g) = below n f && below n g
+below n (or_form f g) = below n f && below n g
 below n (implies f g) = below n f && below n g
 below n (until f g) = below n f && below n g
 

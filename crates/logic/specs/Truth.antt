@@ -1,7 +1,7 @@
 -- Truth of a formula at a step of a run. Assumes nothing.
 use Rattle.std.specs.Prelude.{◌≡◌, ℕ, suc, ◌<◌, ◌≤◌, true, ◌⊎◌, List, [], ◌∷◌}
 use Rattle.logic.specs.Runs.{Run}
-use Rattle.logic.specs.Form.{Form, yes-form, no-form, signal, not-form, next-form, always, eventually, and-form, or-form, implies, until}
+use Rattle.logic.specs.Form.{Form, yes_form, no_form, signal, not_form, next_form, always, eventually, and_form, or_form, implies, until}
 
 -- Q at some step k ≥ j, and P at every step from j to k − 1
 abbrev pub Until : (ℕ → Type 0) → (ℕ → Type 0) → ℕ → Type 0
@@ -9,15 +9,15 @@ Until P Q j = (k : ℕ) × (j ≤ k) × Q k × ((i : ℕ) → j ≤ i → i < k 
 
 -- the formula is true at step j of the run: `eventually` is `true until`, and `always` is `not eventually not`
 abbrev pub Holds : Form → Run → ℕ → Type 0
-Holds yes-form σ j = Unit {0}
-Holds no-form σ j = ⊥
+Holds yes_form σ j = Unit {0}
+Holds no_form σ j = ⊥
 Holds (signal g) σ j = σ j g ≡ true
-Holds (not-form f) σ j = Holds f σ j → ⊥
-Holds (next-form f) σ j = Holds f σ (suc j)
+Holds (not_form f) σ j = Holds f σ j → ⊥
+Holds (next_form f) σ j = Holds f σ (suc j)
 Holds (always f) σ j = Until (λ _. Unit {0}) (λ k. Holds f σ k → ⊥) j → ⊥
 Holds (eventually f) σ j = Until (λ _. Unit {0}) (λ k. Holds f σ k) j
-Holds (and-form f g) σ j = Holds f σ j × Holds g σ j
-Holds (or-form f g) σ j = Holds f σ j ⊎ Holds g σ j
+Holds (and_form f g) σ j = Holds f σ j × Holds g σ j
+Holds (or_form f g) σ j = Holds f σ j ⊎ Holds g σ j
 Holds (implies f g) σ j = Holds f σ j → Holds g σ j
 Holds (until f g) σ j = Until (λ i. Holds f σ i) (λ k. Holds g σ k) j
 

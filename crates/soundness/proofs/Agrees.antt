@@ -3,7 +3,7 @@ use Rattle.std.proofs.Common.{◌≡◌, ℕ, zero, suc, ◌+◌, ◌^◌, ◌<�
 use Rattle.std.proofs.lemmas.Bool.{true≢false, false≢true, both_ways, and_parts, and_from, or_cases, or_left, or_right, cases_Bool, eq-eqb, not_from_false}
 use Rattle.std.proofs.lemmas.Bool.Decides.{Decides-at, Decides-not, Decides-and, Decides-or, same_from_decides}
 use Rattle.logic.specs.Runs.{Run}
-use Rattle.logic.specs.Form.{Form, yes-form, no-form, signal, not-form, next-form, always, eventually, and-form, or-form, implies, until}
+use Rattle.logic.specs.Form.{Form, yes_form, no_form, signal, not_form, next_form, always, eventually, and_form, or_form, implies, until}
 use Rattle.logic.specs.Truth.{Until, Holds}
 use Rattle.logic.specs.Basics.{occurs, ops}
 use Rattle.tableau.specs.Machine.{bit_on, holds, same, linked, kept}
@@ -49,15 +49,15 @@ module _ (P : ℕ → Type 0) (j : ℕ) where
 module _ (a : ℕ → ℕ) (σ : Run) where
   -- each operator's bit in s is the truth at step j + 1
   abbrev pub Agrees : Form → ℕ → ℕ → ℕ → Type 0
-  Agrees yes-form j s k = Unit {0}
-  Agrees no-form j s k = Unit {0}
+  Agrees yes_form j s k = Unit {0}
+  Agrees no_form j s k = Unit {0}
   Agrees (signal g) j s k = Unit {0}
-  Agrees (not-form f) j s k = Agrees f j s k
-  Agrees (next-form f) j s k = Decides (bit_on s k) (Holds f σ (suc j)) × Agrees f j s (k + 1)
+  Agrees (not_form f) j s k = Agrees f j s k
+  Agrees (next_form f) j s k = Decides (bit_on s k) (Holds f σ (suc j)) × Agrees f j s (k + 1)
   Agrees (always f) j s k = Decides (bit_on s k) (Holds (always f) σ (suc j)) × Agrees f j s (k + 1)
   Agrees (eventually f) j s k = Decides (bit_on s k) (Holds (eventually f) σ (suc j)) × Agrees f j s (k + 1)
-  Agrees (and-form f g) j s k = Agrees f j s k × Agrees g j s (k + ops f)
-  Agrees (or-form f g) j s k = Agrees f j s k × Agrees g j s (k + ops f)
+  Agrees (and_form f g) j s k = Agrees f j s k × Agrees g j s (k + ops f)
+  Agrees (or_form f g) j s k = Agrees f j s k × Agrees g j s (k + ops f)
   Agrees (implies f g) j s k = Agrees f j s k × Agrees g j s (k + ops f)
   Agrees (until f g) j s k = Agrees f j s k × Decides (bit_on s (k + ops f)) (Holds (until f g) σ (suc j)) × Agrees g j s (k + ops f + 1)
 
@@ -71,17 +71,17 @@ module _ (a : ℕ → ℕ) (σ : Run) where
   on_right f g j s sig h e = sig h (or_right (occurs f h) (occurs g h) e)
 
   pub true_at : (f : Form) (j s k : ℕ) → Signals f j s → Agrees f j s k → Decides (holds a f s k) (Holds f σ j)
-  true_at yes-form j s k sig ag = (λ _. tt, λ _. refl)
-  true_at no-form j s k sig ag = (λ e. false≢true e, λ x. absurd x)
+  true_at yes_form j s k sig ag = (λ _. tt, λ _. refl)
+  true_at no_form j s k sig ag = (λ e. false≢true e, λ x. absurd x)
   true_at (signal g) j s k sig ag = let e = sig g (eq-eqb g g refl) in (λ h. sym e ∙ h, λ h. e ∙ h)
-  true_at (not-form f) j s k sig ag = Decides-not (holds a f s k) (true_at f j s k sig ag)
-  true_at (next-form f) j s k sig ag = ag.0
+  true_at (not_form f) j s k sig ag = Decides-not (holds a f s k) (true_at f j s k sig ag)
+  true_at (next_form f) j s k sig ag = ag.0
   true_at (always f) j s k sig ag = always_step (λ i. Holds f σ i) j (holds a f s (k + 1)) (bit_on s k) (true_at f j s (k + 1) sig ag.1) ag.0
   true_at (eventually f) j s k sig ag =
       until_step (λ _. Unit {0}) (λ i. Holds f σ i) j (holds a f s (k + 1)) true (bit_on s k) (true_at f j s (k + 1) sig ag.1) (λ _. tt, λ _. refl) ag.0
-  true_at (and-form f g) j s k sig ag =
+  true_at (and_form f g) j s k sig ag =
       Decides-and (holds a f s k) (holds a g s (k + ops f)) (true_at f j s k (on_left f g j s sig) ag.0) (true_at g j s (k + ops f) (on_right f g j s sig) ag.1)
-  true_at (or-form f g) j s k sig ag =
+  true_at (or_form f g) j s k sig ag =
       Decides-or (holds a f s k) (holds a g s (k + ops f)) (true_at f j s k (on_left f g j s sig) ag.0) (true_at g j s (k + ops f) (on_right f g j s sig) ag.1)
   true_at (implies f g) j s k sig ag =
       decides_implies (holds a f s k) (holds a g s (k + ops f)) (true_at f j s k (on_left f g j s sig) ag.0) (true_at g j s (k + ops f) (on_right f g j s sig) ag.1)
@@ -92,11 +92,11 @@ module _ (a : ℕ → ℕ) (σ : Run) where
   -- ---- steps
   module _ (j s t : ℕ) where
     pub linked_at : (f : Form) (k : ℕ) → Agrees f j s k → Signals f (suc j) t → Agrees f (suc j) t k → linked a f s t k ≡ true
-    linked_at yes-form k ag sig bg = refl
-    linked_at no-form k ag sig bg = refl
+    linked_at yes_form k ag sig bg = refl
+    linked_at no_form k ag sig bg = refl
     linked_at (signal g) k ag sig bg = refl
-    linked_at (not-form f) k ag sig bg = linked_at f k ag sig bg
-    linked_at (next-form f) k ag sig bg =
+    linked_at (not_form f) k ag sig bg = linked_at f k ag sig bg
+    linked_at (next_form f) k ag sig bg =
         let x = holds a f t (k + 1) in
         and_from (same (bit_on s k) x) _ (from_same (bit_on s k) x (same_from_decides (bit_on s k) x ag.0 (true_at f (suc j) t (k + 1) sig bg.1)))
         (linked_at f (k + 1) ag.1 sig bg.1)
@@ -108,9 +108,9 @@ module _ (a : ℕ → ℕ) (σ : Run) where
         let x = holds a (eventually f) t k in
         and_from (same (bit_on s k) x) _ (from_same (bit_on s k) x (same_from_decides (bit_on s k) x ag.0 (true_at (eventually f) (suc j) t k sig bg)))
         (linked_at f (k + 1) ag.1 sig bg.1)
-    linked_at (and-form f g) k ag sig bg =
+    linked_at (and_form f g) k ag sig bg =
         and_from (linked a f s t k) _ (linked_at f k ag.0 (on_left f g (suc j) t sig) bg.0) (linked_at g (k + ops f) ag.1 (on_right f g (suc j) t sig) bg.1)
-    linked_at (or-form f g) k ag sig bg =
+    linked_at (or_form f g) k ag sig bg =
         and_from (linked a f s t k) _ (linked_at f k ag.0 (on_left f g (suc j) t sig) bg.0) (linked_at g (k + ops f) ag.1 (on_right f g (suc j) t sig) bg.1)
     linked_at (implies f g) k ag sig bg =
         and_from (linked a f s t k) _ (linked_at f k ag.0 (on_left f g (suc j) t sig) bg.0) (linked_at g (k + ops f) ag.1 (on_right f g (suc j) t sig) bg.1)
@@ -165,11 +165,11 @@ module _ (a : ℕ → ℕ) (σ : Run) where
     ])
 
     pub again : (f : Form) (k : ℕ) → Sig f → Agr f k → Each Again (kept a f k)
-    again yes-form k sig ag = tt
-    again no-form k sig ag = tt
+    again yes_form k sig ag = tt
+    again no_form k sig ag = tt
     again (signal g) k sig ag = tt
-    again (not-form f) k sig ag = again f k sig ag
-    again (next-form f) k sig ag = again f (k + 1) sig (λ i s at. (ag i s at).1)
+    again (not_form f) k sig ag = again f k sig ag
+    again (next_form f) k sig ag = again f (k + 1) sig (λ i s at. (ag i s at).1)
     again (always f) k sig ag = (
       breaks (λ i. Holds f σ i) (λ s. holds a (always f) s k) (λ s. holds a f s (k + 1))
           (λ i s at. true_at (always f) i s k (sig i s at) (ag i s at)) (λ i s at. true_at f i s (k + 1) (sig i s at) (ag i s at).1),
@@ -180,10 +180,10 @@ module _ (a : ℕ → ℕ) (σ : Run) where
           (λ i s at. true_at (eventually f) i s k (sig i s at) (ag i s at)) (λ i s at. true_at f i s (k + 1) (sig i s at) (ag i s at).1),
       again f (k + 1) sig (λ i s at. (ag i s at).1),
     )
-    again (and-form f g) k sig ag =
+    again (and_form f g) k sig ag =
         each_join (kept a f k) (kept a g (k + ops f)) (again f k (λ i s at. on_left f g i s (sig i s at)) (λ i s at. (ag i s at).0))
         (again g (k + ops f) (λ i s at. on_right f g i s (sig i s at)) (λ i s at. (ag i s at).1))
-    again (or-form f g) k sig ag =
+    again (or_form f g) k sig ag =
         each_join (kept a f k) (kept a g (k + ops f)) (again f k (λ i s at. on_left f g i s (sig i s at)) (λ i s at. (ag i s at).0))
         (again g (k + ops f) (λ i s at. on_right f g i s (sig i s at)) (λ i s at. (ag i s at).1))
     again (implies f g) k sig ag =
@@ -207,15 +207,15 @@ module _ (a : ℕ → ℕ) (σ : Run) where
 
   module _ (j s t : ℕ) where
     stable : (f : Form) (k : ℕ) → Alike (k + ops f) s t → Agrees f j s k → Agrees f j t k
-    stable yes-form k al ag = tt
-    stable no-form k al ag = tt
+    stable yes_form k al ag = tt
+    stable no_form k al ag = tt
     stable (signal g) k al ag = tt
-    stable (not-form f) k al ag = stable f k al ag
-    stable (next-form f) k al ag = (moved (Holds f σ (suc j)) s t k (al k (omega arith)) ag.0, stable f (k + 1) (λ q l. al q (omega arith)) ag.1)
+    stable (not_form f) k al ag = stable f k al ag
+    stable (next_form f) k al ag = (moved (Holds f σ (suc j)) s t k (al k (omega arith)) ag.0, stable f (k + 1) (λ q l. al q (omega arith)) ag.1)
     stable (always f) k al ag = (moved (Holds (always f) σ (suc j)) s t k (al k (omega arith)) ag.0, stable f (k + 1) (λ q l. al q (omega arith)) ag.1)
     stable (eventually f) k al ag = (moved (Holds (eventually f) σ (suc j)) s t k (al k (omega arith)) ag.0, stable f (k + 1) (λ q l. al q (omega arith)) ag.1)
-    stable (and-form f g) k al ag = (stable f k (λ q l. al q (omega arith)) ag.0, stable g (k + ops f) (λ q l. al q (omega arith)) ag.1)
-    stable (or-form f g) k al ag = (stable f k (λ q l. al q (omega arith)) ag.0, stable g (k + ops f) (λ q l. al q (omega arith)) ag.1)
+    stable (and_form f g) k al ag = (stable f k (λ q l. al q (omega arith)) ag.0, stable g (k + ops f) (λ q l. al q (omega arith)) ag.1)
+    stable (or_form f g) k al ag = (stable f k (λ q l. al q (omega arith)) ag.0, stable g (k + ops f) (λ q l. al q (omega arith)) ag.1)
     stable (implies f g) k al ag = (stable f k (λ q l. al q (omega arith)) ag.0, stable g (k + ops f) (λ q l. al q (omega arith)) ag.1)
     stable (until f g) k al ag = (
       stable f k (λ q l. al q (omega arith)) ag.0,
@@ -263,15 +263,15 @@ module _ (a : ℕ → ℕ) (σ : Run) where
         )))
 
     pub build : (f : Form) (k s : ℕ) → s < 2 ^ k → Likely (Built f k s)
-    build yes-form k s h = sure (s, recount s k (k + 0) (omega arith) h, (λ q l. refl), tt)
-    build no-form k s h = sure (s, recount s k (k + 0) (omega arith) h, (λ q l. refl), tt)
+    build yes_form k s h = sure (s, recount s k (k + 0) (omega arith) h, (λ q l. refl), tt)
+    build no_form k s h = sure (s, recount s k (k + 0) (omega arith) h, (λ q l. refl), tt)
     build (signal g) k s h = sure (s, recount s k (k + 0) (omega arith) h, (λ q l. refl), tt)
-    build (not-form f) k s h = build f k s h
-    build (next-form f) k s h = before (Holds f σ (suc j)) f k s h (build f (k + 1))
+    build (not_form f) k s h = build f k s h
+    build (next_form f) k s h = before (Holds f σ (suc j)) f k s h (build f (k + 1))
     build (always f) k s h = before (Holds (always f) σ (suc j)) f k s h (build f (k + 1))
     build (eventually f) k s h = before (Holds (eventually f) σ (suc j)) f k s h (build f (k + 1))
-    build (and-form f g) k s h = beside f g k s (build f k s h) (build g (k + ops f))
-    build (or-form f g) k s h = beside f g k s (build f k s h) (build g (k + ops f))
+    build (and_form f g) k s h = beside f g k s (build f k s h) (build g (k + ops f))
+    build (or_form f g) k s h = beside f g k s (build f k s h) (build g (k + ops f))
     build (implies f g) k s h = beside f g k s (build f k s h) (build g (k + ops f))
     build (until f g) k s h =
         let m = k + ops f in

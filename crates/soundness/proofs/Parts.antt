@@ -2,7 +2,7 @@
 use Rattle.std.proofs.Common.{◌≡◌, ℕ, suc, ◌+◌, Bool, true, false, not, ◌&&◌, ◌||◌, List, [], ◌∷◌, ◌++◌, Decides}
 use Rattle.std.proofs.lemmas.Bool.{and_parts, or_left, or_right}
 use Rattle.logic.specs.Runs.{Run}
-use Rattle.logic.specs.Form.{Form, yes-form, no-form, signal, not-form, next-form, always, eventually, and-form, or-form, implies, until}
+use Rattle.logic.specs.Form.{Form, yes_form, no_form, signal, not_form, next_form, always, eventually, and_form, or_form, implies, until}
 use Rattle.logic.specs.Truth.{Holds}
 use Rattle.logic.specs.Basics.{occurs, rank, ops, signals}
 use Rattle.tableau.specs.Machine.{bit_on, holds, same, linked, kept}
@@ -26,7 +26,7 @@ module _ (a : ℕ → ℕ) (w : ℕ → ℕ) (σ : Run) where
 
   -- the operands of an operator that has none
   abbrev Two : Form → Form → ℕ → Type 0
-  Two f g k = Shown a w σ (and-form f g) × Linked a w σ (and-form f g) k × Each (Often a w σ) (kept a f k ++ kept a g (k + ops f))
+  Two f g k = Shown a w σ (and_form f g) × Linked a w σ (and_form f g) k × Each (Often a w σ) (kept a f k ++ kept a g (k + ops f))
 
   first : (f g : Form) (k : ℕ) → Two f g k → Given f k
   first f g k h = (
@@ -57,15 +57,15 @@ module _ (a : ℕ → ℕ) (w : ℕ → ℕ) (σ : Run) where
   )
 
   everywhere : (f : Form) (k : ℕ) → Given f k → Everywhere Right f k
-  everywhere yes-form k h = here yes-form k h
-  everywhere no-form k h = here no-form k h
+  everywhere yes_form k h = here yes_form k h
+  everywhere no_form k h = here no_form k h
   everywhere (signal g) k h = here (signal g) k h
-  everywhere (not-form f) k h = (here (not-form f) k h, everywhere f k h)
-  everywhere (next-form f) k h = (here (next-form f) k h, everywhere f (k + 1) (below f k (λ j. holds a f (w (suc j)) (k + 1)) h.0 h.1 h.2))
+  everywhere (not_form f) k h = (here (not_form f) k h, everywhere f k h)
+  everywhere (next_form f) k h = (here (next_form f) k h, everywhere f (k + 1) (below f k (λ j. holds a f (w (suc j)) (k + 1)) h.0 h.1 h.2))
   everywhere (always f) k h = (here (always f) k h, everywhere f (k + 1) (below f k (λ j. holds a (always f) (w (suc j)) k) h.0 h.1 h.2.1))
   everywhere (eventually f) k h = (here (eventually f) k h, everywhere f (k + 1) (below f k (λ j. holds a (eventually f) (w (suc j)) k) h.0 h.1 h.2.1))
-  everywhere (and-form f g) k h = (here (and-form f g) k h, everywhere f k (first f g k h), everywhere g (k + ops f) (second f g k h))
-  everywhere (or-form f g) k h = (here (or-form f g) k h, everywhere f k (first f g k h), everywhere g (k + ops f) (second f g k h))
+  everywhere (and_form f g) k h = (here (and_form f g) k h, everywhere f k (first f g k h), everywhere g (k + ops f) (second f g k h))
+  everywhere (or_form f g) k h = (here (or_form f g) k h, everywhere f k (first f g k h), everywhere g (k + ops f) (second f g k h))
   everywhere (implies f g) k h = (here (implies f g) k h, everywhere f k (first f g k h), everywhere g (k + ops f) (second f g k h))
   everywhere (until f g) k h = (here (until f g) k h, everywhere f k (until_first f g k h), everywhere g (k + ops f + 1) (until_second f g k h))
 

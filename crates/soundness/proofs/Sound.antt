@@ -3,7 +3,7 @@ use Rattle.std.proofs.Common.{◌≡◌, ℕ, zero, suc, ◌+◌, ◌<◌, ◌�
 use Rattle.std.proofs.lemmas.Bool.{true≢false, false≢true, and_parts, or_left, or_right, eq-eqb}
 use Rattle.std.proofs.lemmas.Bool.Decides.{Decides-at, Decides-not, Decides-and, Decides-or}
 use Rattle.logic.specs.Runs.{Run}
-use Rattle.logic.specs.Form.{Form, yes-form, no-form, signal, not-form, next-form, always, eventually, and-form, or-form, implies, until}
+use Rattle.logic.specs.Form.{Form, yes_form, no_form, signal, not_form, next_form, always, eventually, and_form, or_form, implies, until}
 use Rattle.logic.specs.Truth.{Until, Holds}
 use Rattle.logic.specs.Basics.{occurs, ops}
 use Rattle.tableau.specs.Machine.{bit_on, holds, same, linked, kept}
@@ -32,11 +32,11 @@ module _ (a : ℕ → ℕ) (w : ℕ → ℕ) (σ : Run) where
   Linked f k = (j : ℕ) → linked a f (w j) (w (suc j)) k ≡ true
 
   pub right : (f : Form) (k : ℕ) → Shown f → Linked f k → Each Often (kept a f k) → (j : ℕ) → Decides (holds a f (w j) k) (Holds f σ j)
-  right yes-form k sig link fair j = (λ _. tt, λ _. refl)
-  right no-form k sig link fair j = (λ e. false≢true e, λ x. absurd x)
+  right yes_form k sig link fair j = (λ _. tt, λ _. refl)
+  right no_form k sig link fair j = (λ e. false≢true e, λ x. absurd x)
   right (signal g) k sig link fair j = let e = sig j g (eq-eqb g g refl) in (λ h. sym e ∙ h, λ h. e ∙ h)
-  right (not-form f) k sig link fair j = Decides-not (holds a f (w j) k) (right f k sig link fair j)
-  right (next-form f) k sig link fair j =
+  right (not_form f) k sig link fair j = Decides-not (holds a f (w j) k) (right f k sig link fair j)
+  right (next_form f) k sig link fair j =
       let b = bit_on (w j) k in
       let t = holds a f (w (suc j)) (k + 1) in
       let now = (and_parts (same b t) (linked a f (w j) (w (suc j)) (k + 1)) (link j)).0 in
@@ -52,12 +52,12 @@ module _ (a : ℕ → ℕ) (w : ℕ → ℕ) (σ : Run) where
       until_right (λ _. true) (λ i. holds a f (w i) (k + 1)) (λ i. holds a (eventually f) (w i) k) (λ _. Unit {0}) (λ i. Holds f σ i)
       (λ _. (λ _. tt, λ _. refl)) (right f (k + 1) sig (λ i. (both i).1) fair.1)
       (λ i. ap (λ (x : Bool). holds a f (w i) (k + 1) || x) (same_true _ _ (both i).0)) fair.0 j
-  right (and-form f g) k sig link fair j =
+  right (and_form f g) k sig link fair j =
       let both = λ (i : ℕ). and_parts (linked a f (w i) (w (suc i)) k) (linked a g (w i) (w (suc i)) (k + ops f)) (link i) in
       Decides-and (holds a f (w j) k) (holds a g (w j) (k + ops f))
       (right f k (λ i h e. sig i h (or_left (occurs f h) (occurs g h) e)) (λ i. (both i).0) (each_left Often (kept a f k) _ fair) j)
       (right g (k + ops f) (λ i h e. sig i h (or_right (occurs f h) (occurs g h) e)) (λ i. (both i).1) (each_right Often (kept a f k) _ fair) j)
-  right (or-form f g) k sig link fair j =
+  right (or_form f g) k sig link fair j =
       let both = λ (i : ℕ). and_parts (linked a f (w i) (w (suc i)) k) (linked a g (w i) (w (suc i)) (k + ops f)) (link i) in
       Decides-or (holds a f (w j) k) (holds a g (w j) (k + ops f))
       (right f k (λ i h e. sig i h (or_left (occurs f h) (occurs g h) e)) (λ i. (both i).0) (each_left Often (kept a f k) _ fair) j)

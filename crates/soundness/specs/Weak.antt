@@ -1,7 +1,7 @@
 -- Truth with no choice made: what cannot be denied. Assumes nothing.
 use Rattle.std.specs.Prelude.{◌≡◌, ℕ, suc, ◌≤◌, Bool, true, ◌⊎◌, List, [], ◌∷◌}
 use Rattle.logic.specs.Runs.{Run}
-use Rattle.logic.specs.Form.{Form, yes-form, no-form, signal, not-form, next-form, always, eventually, and-form, or-form, implies, until}
+use Rattle.logic.specs.Form.{Form, yes_form, no_form, signal, not_form, next_form, always, eventually, and_form, or_form, implies, until}
 use Rattle.logic.specs.Truth.{Until, Holds}
 use Rattle.logic.specs.Basics.{all}
 use Rattle.plant.specs.Meaning.{Meaning, Lawful}
@@ -13,15 +13,15 @@ use Rattle.plant.specs.Walks.{Walk, Fair}
 
 -- `some` and `or` without saying which, `always` as at every step
 abbrev pub Weak : Form → Run → ℕ → Type 0
-Weak yes-form σ j = Unit {0}
-Weak no-form σ j = ⊥
+Weak yes_form σ j = Unit {0}
+Weak no_form σ j = ⊥
 Weak (signal g) σ j = σ j g ≡ true
-Weak (not-form f) σ j = Weak f σ j → ⊥
-Weak (next-form f) σ j = Weak f σ (suc j)
+Weak (not_form f) σ j = Weak f σ j → ⊥
+Weak (next_form f) σ j = Weak f σ (suc j)
 Weak (always f) σ j = (k : ℕ) → j ≤ k → Weak f σ k
 Weak (eventually f) σ j = (((k : ℕ) × (j ≤ k) × Weak f σ k) → ⊥) → ⊥
-Weak (and-form f g) σ j = Weak f σ j × Weak g σ j
-Weak (or-form f g) σ j = (Weak f σ j ⊎ Weak g σ j → ⊥) → ⊥
+Weak (and_form f g) σ j = Weak f σ j × Weak g σ j
+Weak (or_form f g) σ j = (Weak f σ j ⊎ Weak g σ j → ⊥) → ⊥
 Weak (implies f g) σ j = Weak f σ j → Weak g σ j
 Weak (until f g) σ j = (Until (λ i. Weak f σ i) (λ k. Weak g σ k) j → ⊥) → ⊥
 

@@ -1,7 +1,7 @@
 -- The book's machine: its states, by one bit for each basic of the standing rules. Assumes nothing.
 use Rattle.std.specs.Prelude.{ℕ, ◌+◌, ◌/◌, ◌%◌, ◌^◌, Bool, true, false, cond, not, ◌&&◌, ◌||◌, List, [], ◌∷◌, ◌++◌, length, ◌==◌, nat_lt, slice_index_or}
 use Rattle.logic.specs.Marks.{all_either, word}
-use Rattle.logic.specs.Form.{Form, yes-form, no-form, signal, not-form, next-form, always, eventually, and-form, or-form, implies, until}
+use Rattle.logic.specs.Form.{Form, yes_form, no_form, signal, not_form, next_form, always, eventually, and_form, or_form, implies, until}
 use Rattle.logic.specs.Basics.{occurs, ops, rank, signals, basics, all}
 use Rattle.plant.specs.Meaning.{Meaning}
 
@@ -11,15 +11,15 @@ bit_on s k = s / 2 ^ k % 2 == 1
 
 -- truth in a state: the signal g has the bit a g, and the operators have the bits from k on, in the order of the text
 abbrev pub holds : (ℕ → ℕ) → Form → ℕ → ℕ → Bool
-holds a yes-form s k = true
-holds a no-form s k = false
+holds a yes_form s k = true
+holds a no_form s k = false
 holds a (signal g) s k = bit_on s (a g)
-holds a (not-form f) s k = not (holds a f s k)
-holds a (next-form f) s k = bit_on s k
+holds a (not_form f) s k = not (holds a f s k)
+holds a (next_form f) s k = bit_on s k
 holds a (always f) s k = holds a f s (k + 1) && bit_on s k
 holds a (eventually f) s k = holds a f s (k + 1) || bit_on s k
-holds a (and-form f g) s k = holds a f s k && holds a g s (k + ops f)
-holds a (or-form f g) s k = holds a f s k || holds a g s (k + ops f)
+holds a (and_form f g) s k = holds a f s k && holds a g s (k + ops f)
+holds a (or_form f g) s k = holds a f s k || holds a g s (k + ops f)
 holds a (implies f g) s k = not (holds a f s k) || holds a g s (k + ops f)
 holds a (until f g) s k = holds a g s (k + ops f + 1) || (holds a f s k && bit_on s (k + ops f))
 
@@ -29,29 +29,29 @@ same false y = not y
 
 -- each `next φ` bit of s equals the truth of φ in t, and each other operator's bit of s equals the truth of its whole formula in t
 abbrev pub linked : (ℕ → ℕ) → Form → ℕ → ℕ → ℕ → Bool
-linked a yes-form s t k = true
-linked a no-form s t k = true
+linked a yes_form s t k = true
+linked a no_form s t k = true
 linked a (signal g) s t k = true
-linked a (not-form f) s t k = linked a f s t k
-linked a (next-form f) s t k = same (bit_on s k) (holds a f t (k + 1)) && linked a f s t (k + 1)
+linked a (not_form f) s t k = linked a f s t k
+linked a (next_form f) s t k = same (bit_on s k) (holds a f t (k + 1)) && linked a f s t (k + 1)
 linked a (always f) s t k = same (bit_on s k) (holds a (always f) t k) && linked a f s t (k + 1)
 linked a (eventually f) s t k = same (bit_on s k) (holds a (eventually f) t k) && linked a f s t (k + 1)
-linked a (and-form f g) s t k = linked a f s t k && linked a g s t (k + ops f)
-linked a (or-form f g) s t k = linked a f s t k && linked a g s t (k + ops f)
+linked a (and_form f g) s t k = linked a f s t k && linked a g s t (k + ops f)
+linked a (or_form f g) s t k = linked a f s t k && linked a g s t (k + ops f)
 linked a (implies f g) s t k = linked a f s t k && linked a g s t (k + ops f)
 linked a (until f g) s t k = linked a f s t k && (same (bit_on s (k + ops f)) (holds a (until f g) t k) && linked a g s t (k + ops f + 1))
 
 -- the promises in bit order, each by the test of the states that fulfil it
 abbrev pub kept : (ℕ → ℕ) → Form → ℕ → List (ℕ → Bool)
-kept a yes-form k = []
-kept a no-form k = []
+kept a yes_form k = []
+kept a no_form k = []
 kept a (signal g) k = []
-kept a (not-form f) k = kept a f k
-kept a (next-form f) k = kept a f (k + 1)
+kept a (not_form f) k = kept a f k
+kept a (next_form f) k = kept a f (k + 1)
 kept a (always f) k = (λ s. holds a (always f) s k || not (holds a f s (k + 1))) ∷ kept a f (k + 1)
 kept a (eventually f) k = (λ s. not (holds a (eventually f) s k) || holds a f s (k + 1)) ∷ kept a f (k + 1)
-kept a (and-form f g) k = kept a f k ++ kept a g (k + ops f)
-kept a (or-form f g) k = kept a f k ++ kept a g (k + ops f)
+kept a (and_form f g) k = kept a f k ++ kept a g (k + ops f)
+kept a (or_form f g) k = kept a f k ++ kept a g (k + ops f)
 kept a (implies f g) k = kept a f k ++ kept a g (k + ops f)
 kept a (until f g) k = kept a f k ++ ((λ s. not (holds a (until f g) s k) || holds a g s (k + ops f + 1)) ∷ kept a g (k + ops f + 1))
 

@@ -5,7 +5,7 @@ use Rattle.std.proofs.Math.Path.{ap}
 use Rattle.std.proofs.Math.ListN.{get_or-eq_default}
 use Rattle.std.proofs.lemmas.Bool.{true≢false, false≢true, and_parts, cases_lt, ltb-true, lt-ltb, le-ltb, cond-true, cond-false, cond_both}
 use Rattle.logic.specs.Marks.{mark, all_either}
-use Rattle.logic.specs.Form.{Form, yes-form, no-form, signal, not-form, next-form, always, eventually, and-form, or-form, implies, until}
+use Rattle.logic.specs.Form.{Form, yes_form, no_form, signal, not_form, next_form, always, eventually, and_form, or_form, implies, until}
 use Rattle.logic.specs.Basics.{occurs, rank, ops, signals, basics}
 use Rattle.plant.specs.Meaning.{Meaning, Lawful}
 use Rattle.tableau.specs.Machine.{bit_on, holds, linked, kept, mark_of, mark_word, machine}
@@ -13,15 +13,15 @@ use Rattle.tableau.specs.Small.{Small}
 use Rattle.logic.proofs.Words.{mark_word_at}
 
 pub few_kept : (a : ℕ → ℕ) (f : Form) (k : ℕ) → length (kept a f k) ≤ ops f
-few_kept a yes-form k = omega arith
-few_kept a no-form k = omega arith
+few_kept a yes_form k = omega arith
+few_kept a no_form k = omega arith
 few_kept a (signal g) k = omega arith
-few_kept a (not-form f) k = few_kept a f k
-few_kept a (next-form f) k = omega (arith, few_kept a f (k + 1))
+few_kept a (not_form f) k = few_kept a f k
+few_kept a (next_form f) k = omega (arith, few_kept a f (k + 1))
 few_kept a (always f) k = omega (arith, few_kept a f (k + 1))
 few_kept a (eventually f) k = omega (arith, few_kept a f (k + 1))
-few_kept a (and-form f g) k = omega (arith, few_kept a f k, few_kept a g (k + ops f), length-append (kept a f k) (kept a g (k + ops f)))
-few_kept a (or-form f g) k = omega (arith, few_kept a f k, few_kept a g (k + ops f), length-append (kept a f k) (kept a g (k + ops f)))
+few_kept a (and_form f g) k = omega (arith, few_kept a f k, few_kept a g (k + ops f), length-append (kept a f k) (kept a g (k + ops f)))
+few_kept a (or_form f g) k = omega (arith, few_kept a f k, few_kept a g (k + ops f), length-append (kept a f k) (kept a g (k + ops f)))
 few_kept a (implies f g) k = omega (arith, few_kept a f k, few_kept a g (k + ops f), length-append (kept a f k) (kept a g (k + ops f)))
 few_kept a (until f g) k =
     omega (
