@@ -1,7 +1,6 @@
 // Examples of rule texts: their formulas, their refusals, and what they hold.
 #![tactic(auto)]
 
-
 #[cfg(test)]
 mod tests {
     use grammar::{Unread, read, survey};

@@ -1,7 +1,6 @@
 // Examples of how rule texts are cut into tokens, by their listings.
 #![tactic(auto)]
 
-
 #[cfg(test)]
 mod tests {
     use protocol::listing;
