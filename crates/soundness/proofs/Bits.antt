@@ -1,6 +1,6 @@
 -- A bit put in front of a number. Assumes nothing.
-use Rattle.std.proofs.Common.{◌≡◌, ℕ, zero, suc, ◌+◌, ◌-◌, ◌*◌, ◌/◌, ◌%◌, ◌^◌, ◌<◌, ◌≤◌, Bool, true, false, cond, eqb, sym, refl, ap, ◌∙◌, subst, arith, pow-add, shl_lt}
-use lib.Pow.{high, low, field, mod-mod-pow}
+use Rattle.std.proofs.Common.{◌≡◌, ℕ, ◌+◌, ◌*◌, ◌%◌, ◌^◌, ◌<◌, Bool, true, false, cond, eqb, refl, ap, ◌∙◌, arith}
+use lib.Pow.{high, low}
 use Rattle.logic.proofs.Words.{low_field, front_below}
 use Rattle.tableau.specs.Machine.{bit_on}
 

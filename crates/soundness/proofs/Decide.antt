@@ -1,14 +1,14 @@
 -- The two answers of decide. Assumes nothing.
-use Rattle.std.proofs.Common.{◌≡◌, ℕ, ◌<◌, Bool, true, false, eqb, List, sym, refl, ap, ◌∙◌, subst, arith}
+use Rattle.std.proofs.Common.{◌≡◌, ℕ, true, eqb, List, arith}
 use Rattle.std.proofs.lemmas.Bool.{eq-eqb, ne_eqb}
 use Rattle.logic.specs.Runs.{Run}
-use Rattle.logic.specs.Marks.{mark, Obeys}
+use Rattle.logic.specs.Marks.{mark}
 use Rattle.logic.specs.Form.{Form}
-use Rattle.logic.specs.Truth.{Holds, Meets}
+use Rattle.logic.specs.Truth.{Meets}
 use Rattle.logic.specs.Basics.{all}
 use Rattle.plant.specs.Meaning.{Meaning, Lawful}
 use Rattle.plant.specs.Walks.{Walk, Fair, Follows, Runs}
-use Rattle.tableau.specs.Machine.{machine, tableau}
+use Rattle.tableau.specs.Machine.{tableau}
 use Rattle.tableau.specs.Small.{Small}
 use Rattle.joint.specs.Pair.{fits, joint}
 use Rattle.joint.proofs.JointRuns.{joint_runs}

@@ -1,14 +1,13 @@
 -- A run that follows a fair walk of the machine meets the rules. Assumes nothing.
-use Rattle.std.proofs.Common.{◌≡◌, ℕ, zero, suc, ◌+◌, ◌*◌, ◌^◌, ◌<◌, ◌≤◌, Bool, true, false, cond, not, ◌&&◌, ◌||◌, eqb, ltb, ◌⊎◌, List, [], ◌∷◌, ◌++◌, length, get_or, Decides, sym, refl, ap, ◌∙◌, subst, inl, inr, arith}
+use Rattle.std.proofs.Common.{◌≡◌, ℕ, suc, ◌^◌, ◌<◌, Bool, true, false, cond, ◌&&◌, ltb, List, [], ◌∷◌, length, get_or, Decides, sym, ◌∙◌, inl, inr, arith}
 use Rattle.std.proofs.lemmas.Bool.{and_parts, cases_Bool, ltb-true, cond-true, cond-false}
 use Rattle.logic.specs.Runs.{Run}
 use Rattle.logic.specs.Marks.{mark}
 use Rattle.logic.specs.Form.{Form}
 use Rattle.logic.specs.Truth.{Holds, Meets}
-use Rattle.logic.specs.Basics.{occurs, rank, ops, signals, basics, all}
-use Rattle.plant.specs.Meaning.{Meaning}
+use Rattle.logic.specs.Basics.{occurs, rank, signals, basics, all}
 use Rattle.plant.specs.Walks.{Walk, Fair, Follows, Runs}
-use Rattle.tableau.specs.Machine.{bit_on, holds, linked, kept, mark_of, machine, tableau}
+use Rattle.tableau.specs.Machine.{bit_on, holds, linked, kept, machine, tableau}
 use Rattle.tableau.specs.Small.{Small}
 use Rattle.soundness.proofs.Sound.{Each, Often, right}
 use Rattle.tableau.specs.MachineLawful.{marked}

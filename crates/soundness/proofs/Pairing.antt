@@ -1,11 +1,11 @@
 -- A run with a trace in each of two plants has one in their joint. Assumes nothing.
-use Rattle.std.proofs.Common.{◌≡◌, ℕ, zero, suc, ◌+◌, ◌-◌, ◌*◌, ◌/◌, ◌%◌, ◌<◌, ◌≤◌, Bool, true, false, cond, ◌&&◌, ltb, ◌⊎◌, sym, refl, ap, ◌∙◌, subst, ap₂, inl, inr, arith}
+use Rattle.std.proofs.Common.{◌≡◌, ℕ, suc, ◌+◌, ◌-◌, ◌*◌, ◌/◌, ◌%◌, ◌<◌, ◌≤◌, true, ltb, sym, refl, ap, ◌∙◌, subst, ap₂, inl, inr, arith}
 use Rattle.std.proofs.lemmas.Nat.{div-mul-add, mod-mul-add}
 use Rattle.std.proofs.lemmas.Bool.{and_from, cases_lt, lt-ltb, le-ltb, cond-true, cond-false}
 use Rattle.logic.specs.Runs.{Run}
 use Rattle.logic.specs.Marks.{all_either, Obeys, agree, merged}
 use Rattle.plant.specs.Meaning.{Meaning, Lawful}
-use Rattle.plant.specs.Walks.{Walk, Fair, Runs}
+use Rattle.plant.specs.Walks.{Runs}
 use Rattle.plant.specs.Unfit.{unfit}
 use Rattle.joint.specs.Pair.{pair, fits, joint}
 use Rattle.joint.specs.PairLawful.{pair_exists}

@@ -1,6 +1,6 @@
 -- The runs of a probe. Assumes nothing.
-use Rattle.std.proofs.Common.{◌≡◌, ℕ, zero, suc, ◌+◌, ◌<◌, ◌≤◌, min, Bool, true, false, cond, ◌&&◌, eqb, ltb, leb, ◌⊎◌, sym, refl, ap, ◌∙◌, subst, ap₂, inl, inr, arith}
-use Rattle.std.proofs.lemmas.Bool.{true≢false, both_ways, and_parts, and_from, cases_Bool, cases_eq, eqb-true, eq-eqb, ne_eqb, lt-ltb, leb-true, cond-true, cond-false, cond_both}
+use Rattle.std.proofs.Common.{◌≡◌, ℕ, zero, suc, ◌+◌, ◌<◌, ◌≤◌, min, Bool, true, false, cond, eqb, ltb, leb, sym, refl, ap, ◌∙◌, subst, inl, inr, arith}
+use Rattle.std.proofs.lemmas.Bool.{both_ways, and_parts, and_from, cases_Bool, cases_eq, eqb-true, eq-eqb, ne_eqb, lt-ltb, leb-true, cond-true, cond-false, cond_both}
 use Rattle.logic.proofs.Words.{mark_word_at}
 use Rattle.logic.specs.Runs.{Run}
 use Rattle.logic.specs.Marks.{mark, all_either, Obeys}

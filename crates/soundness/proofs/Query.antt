@@ -1,12 +1,10 @@
 -- The answers of a query. Assumes nothing.
-use Rattle.std.proofs.Common.{◌≡◌, ℕ, ◌+◌, ◌*◌, Bool, true, false, ◌&&◌, leb, ◌⊎◌, List, sym, refl, ap, ◌∙◌, subst, inl, inr}
+use Rattle.std.proofs.Common.{◌≡◌, ℕ, ◌+◌, ◌*◌, true, ◌&&◌, leb, List, ap, inl, inr}
 use Rattle.std.proofs.lemmas.Bool.{both_ways, and_parts, cases_Bool, cond-false}
-use Rattle.logic.specs.Runs.{Run}
 use Rattle.logic.specs.Form.{Form}
-use Rattle.logic.specs.Truth.{Meets}
 use Rattle.logic.specs.Basics.{all}
 use Rattle.plant.specs.Meaning.{Meaning, Lawful}
-use Rattle.plant.specs.Walks.{Walk, Fair, Runs}
+use Rattle.plant.specs.Walks.{Walk, Fair}
 use Rattle.tableau.specs.Machine.{tableau}
 use Rattle.tableau.specs.Small.{Small}
 use Rattle.plant.specs.Unfit.{unfit}
@@ -23,7 +21,7 @@ use Rattle.soundness.proofs.Trace.{walk_likely}
 use Rattle.soundness.proofs.Pairing.{trace_of, Both, joint_trace}
 use Rattle.soundness.proofs.Stands.{At, machine_trace}
 use Rattle.soundness.proofs.Decide.{NoWalk, read, read_follows}
-use Rattle.soundness.specs.Answers.{NoRun, is_on, Never, Sometimes}
+use Rattle.soundness.specs.Answers.{NoRun, Never, Sometimes}
 use Rattle.soundness.proofs.Probes.{probe_runs}
 
 abbrev pub asked : List Form → Meaning → ℕ → ℕ → Value → Meaning

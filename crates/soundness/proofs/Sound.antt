@@ -1,10 +1,10 @@
 -- On a fair walk of the machine the truth in the states is the truth on the run. Assumes nothing.
-use Rattle.std.proofs.Common.{◌≡◌, ℕ, zero, suc, ◌+◌, ◌<◌, ◌≤◌, Bool, true, false, not, ◌&&◌, ◌||◌, List, [], ◌∷◌, ◌++◌, Decides, sym, refl, ap, ◌∙◌, subst, ap₂, arith}
-use Rattle.std.proofs.lemmas.Bool.{true≢false, false≢true, and_parts, or_left, or_right, eq-eqb}
+use Rattle.std.proofs.Common.{◌≡◌, ℕ, suc, ◌+◌, ◌≤◌, Bool, true, ◌&&◌, ◌||◌, List, [], ◌∷◌, ◌++◌, Decides, sym, refl, ap, ◌∙◌}
+use Rattle.std.proofs.lemmas.Bool.{false≢true, and_parts, or_left, or_right, eq-eqb}
 use Rattle.std.proofs.lemmas.Bool.Decides.{Decides-at, Decides-not, Decides-and, Decides-or}
 use Rattle.logic.specs.Runs.{Run}
 use Rattle.logic.specs.Form.{Form, yes_form, no_form, signal, not_form, next_form, always, eventually, and_form, or_form, implies, until}
-use Rattle.logic.specs.Truth.{Until, Holds}
+use Rattle.logic.specs.Truth.{Holds}
 use Rattle.logic.specs.Basics.{occurs, ops}
 use Rattle.tableau.specs.Machine.{bit_on, holds, same, linked, kept}
 use Rattle.soundness.proofs.Unroll.{same_true, decides_implies, until_right, always_right}

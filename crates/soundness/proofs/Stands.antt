@@ -1,12 +1,11 @@
 -- A run that meets the rules has a trace in the machine. Assumes nothing.
-use Rattle.std.proofs.Common.{◌≡◌, ℕ, zero, suc, ◌+◌, ◌^◌, ◌<◌, ◌≤◌, Bool, true, false, cond, not, ◌&&◌, ◌||◌, ltb, ◌⊎◌, List, [], ◌∷◌, ◌++◌, length, get_or, sym, refl, ap, ◌∙◌, subst, ap₂, inl, inr, arith}
-use Rattle.std.proofs.lemmas.Bool.{true≢false, both_ways, and_from, cases_Bool, cases_eq, lt-ltb, cond-true, cond-false}
+use Rattle.std.proofs.Common.{◌≡◌, ℕ, zero, suc, ◌+◌, ◌^◌, ◌<◌, Bool, true, false, cond, ◌&&◌, ltb, List, [], ◌∷◌, length, get_or, sym, refl, ap, ◌∙◌, subst, inl, inr, arith}
+use Rattle.std.proofs.lemmas.Bool.{both_ways, and_from, cases_Bool, cases_eq, lt-ltb, cond-true, cond-false}
 use Rattle.logic.specs.Runs.{Run}
 use Rattle.logic.specs.Marks.{mark, Obeys}
 use Rattle.logic.specs.Form.{Form}
 use Rattle.logic.specs.Truth.{Holds}
-use Rattle.logic.specs.Basics.{occurs, rank, ops, signals, basics, tally}
-use Rattle.plant.specs.Meaning.{Meaning}
+use Rattle.logic.specs.Basics.{occurs, rank, signals, basics, tally}
 use Rattle.tableau.specs.Machine.{bit_on, holds, linked, kept, mark_of, machine}
 use Rattle.tableau.specs.Small.{Small}
 use Rattle.soundness.proofs.Sound.{Each}

@@ -1,9 +1,9 @@
 -- A run that cannot be denied a place in the states leaves a fair walk that cannot be denied. Assumes nothing.
-use Rattle.std.proofs.Common.{◌≡◌, ℕ, zero, suc, ◌+◌, ◌-◌, ◌<◌, ◌≤◌, Bool, true, false, ◌⊎◌, sym, refl, ap, ◌∙◌, subst, ap₂, inl, inr, arith}
-use Rattle.std.proofs.lemmas.Bool.{cases_eq, cases_lt}
+use Rattle.std.proofs.Common.{◌≡◌, ℕ, suc, ◌+◌, ◌-◌, ◌<◌, ◌≤◌, true, sym, refl, ap, ◌∙◌, subst, inl, inr, arith}
+use Rattle.std.proofs.lemmas.Bool.{cases_eq}
 use Rattle.logic.specs.Runs.{Run}
 use Rattle.logic.specs.Marks.{Obeys}
-use Rattle.plant.specs.Meaning.{Meaning, Lawful}
+use Rattle.plant.specs.Meaning.{Meaning}
 use Rattle.plant.specs.Walks.{Walk, Fair}
 use Rattle.logic.specs.Laws.{Likely}
 use Rattle.soundness.proofs.Likely.{sure, then, from_one_on, row_of}

@@ -1,9 +1,9 @@
 -- Weak truth and truth. Assumes nothing.
-use Rattle.std.proofs.Common.{◌≡◌, ℕ, suc, ◌<◌, ◌≤◌, Bool, true, false, ◌⊎◌, List, sym, refl, inl, inr, arith}
+use Rattle.std.proofs.Common.{ℕ, suc, ◌<◌, ◌≤◌, inl, inr, arith}
 use Rattle.std.proofs.lemmas.Bool.{cases_Bool, cases_lt, both_ways}
 use Rattle.logic.specs.Runs.{Run}
 use Rattle.logic.specs.Form.{Form, yes_form, no_form, signal, not_form, next_form, always, eventually, and_form, or_form, implies, until}
-use Rattle.logic.specs.Truth.{Until, Holds}
+use Rattle.logic.specs.Truth.{Holds}
 use Rattle.logic.specs.Basics.{all}
 use Rattle.soundness.specs.Weak.{Weak, WeakRight, NoneWeak}
 use Rattle.logic.specs.Laws.{Likely}

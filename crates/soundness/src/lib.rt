@@ -1,1 +1,2 @@
 // What fair walks of a book's machine say of endless runs.
+#![tactic(auto)]

@@ -1,13 +1,13 @@
 -- The book's machine is lawful. Assumes nothing.
-use Rattle.std.specs.Prelude.{◌≡◌, ℕ, zero, suc, ◌+◌, ◌*◌, ◌^◌, ◌<◌, ◌≤◌, Bool, true, false, cond, not, ◌&&◌, ◌||◌, ◌⊎◌, List, [], ◌∷◌, ◌++◌, length, ◌≢◌, nat_lt, slice_index_or, refl}
-use Rattle.std.proofs.Common.{sym, ◌∙◌, subst, inl, inr, arith, length-append, pow_mono}
+use Rattle.std.specs.Prelude.{◌≡◌, ℕ, ◌+◌, ◌^◌, ◌<◌, ◌≤◌, Bool, true, false, cond, not, ◌&&◌, ◌||◌, List, ◌∷◌, length, ◌≢◌, nat_lt, slice_index_or}
+use Rattle.std.proofs.Common.{sym, ◌∙◌, inl, inr, arith, length-append, pow_mono}
 use Rattle.std.proofs.Math.Path.{ap}
 use Rattle.std.proofs.Math.ListN.{get_or-eq_default}
 use Rattle.std.proofs.lemmas.Bool.{true≢false, false≢true, and_parts, cases_lt, ltb-true, lt-ltb, le-ltb, cond-true, cond-false, cond_both}
 use Rattle.logic.specs.Marks.{mark, all_either}
 use Rattle.logic.specs.Form.{Form, yes_form, no_form, signal, not_form, next_form, always, eventually, and_form, or_form, implies, until}
 use Rattle.logic.specs.Basics.{occurs, rank, ops, signals, basics}
-use Rattle.plant.specs.Meaning.{Meaning, Lawful}
+use Rattle.plant.specs.Meaning.{Lawful}
 use Rattle.tableau.specs.Machine.{bit_on, holds, linked, kept, mark_of, mark_word, machine}
 use Rattle.tableau.specs.Small.{Small}
 use Rattle.logic.proofs.Words.{mark_word_at}

@@ -1,5 +1,5 @@
 -- The promises one by one, as code asks for them. Assumes nothing.
-use Rattle.std.specs.Prelude.{◌≡◌, ℕ, ◌+◌, ◌-◌, Bool, true, false, cond, not, ◌&&◌, ◌||◌, length, ◌==◌, nat_lt, slice_index_or}
+use Rattle.std.specs.Prelude.{◌≡◌, ℕ, ◌+◌, ◌-◌, Bool, false, cond, not, ◌||◌, length, ◌==◌, nat_lt, slice_index_or}
 use Rattle.logic.specs.Form.{Form, yes_form, no_form, signal, not_form, next_form, always, eventually, and_form, or_form, implies, until}
 use Rattle.logic.specs.Basics.{ops}
 use Rattle.tableau.specs.Machine.{holds, kept}

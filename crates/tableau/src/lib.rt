@@ -1,1 +1,2 @@
 // The book's machine.
+#![tactic(auto)]
