@@ -1,4 +1,4 @@
-use Rattle.std.proofs.Common.{◌+◌, ◌*◌}
+use Rattle.std.proofs.Common.{◌+◌, ◌*◌, max}
 use Rattle.logic.proofs.formula.Formula.TheLaws.{the_size}
 use Rattle.grammar_tests.proofs.tests.+joined_prefixed_show.Given as goal
 
@@ -9,4 +9,4 @@ abbrev pub decreases-prefixed : goal.decreases-prefixed
 decreases-prefixed l = 2 * the_size l.a.now + 1
 
 abbrev pub decreases-joined : goal.decreases-joined
-decreases-joined l = 2 * (the_size l.a.now + the_size l.b.now) + 1
+decreases-joined l = 2 * max (the_size l.a.now) (the_size l.b.now) + 1
