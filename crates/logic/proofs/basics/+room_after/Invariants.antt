@@ -1,5 +1,5 @@
 use Rattle.logic.proofs.formula.Formula.TheLaws.{the_size}
 use Rattle.logic.proofs.basics.+room_after.Given as goal
 
-abbrev pub decreases-room-after : goal.decreases-room_after
-decreases-room-after l = the_size l.f.now
+abbrev pub decreases-room_after : goal.decreases-room_after
+decreases-room_after l = the_size l.f.now
