@@ -8,12 +8,12 @@ abbrev pub is_digit : ℕ → Bool
 is_digit b = is_ascii_digit b
 
 -- the number that digits are, in base ten
-abbrev pub value_of : List ℕ → ℕ
-value_of ds = fold (λ n b. n * 10 + (b - 48)) 0 ds
+abbrev pub value_of_digits : List ℕ → ℕ
+value_of_digits ds = fold (λ n b. n * 10 + (b - 48)) 0 ds
 
 -- the number of the n digits at the front, and what follows them
 abbrev pub numbered_by : ℕ → List ℕ → Option (ℕ × List ℕ)
-numbered_by n text = cond (n == 0 || nat_lt 4 n) None (Some (value_of (take n text), drop n text))
+numbered_by n text = cond (n == 0 || nat_lt 4 n) None (Some (value_of_digits (take n text), drop n text))
 
 -- all the digits at the front are one number
 abbrev pub numbered : List ℕ → Option (ℕ × List ℕ)

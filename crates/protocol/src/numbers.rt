@@ -1,6 +1,6 @@
 // Numbers of one to four digits.
 ghost use Rattle.std.specs.Prelude.{◌≡◌, ◌≤◌, length};
-ghost use Rattle.protocol.specs.Numbers.{is_digit, value_of, numbered, numbered_of};
+ghost use Rattle.protocol.specs.Numbers.{is_digit, value_of_digits, numbered, numbered_of};
 
 use reading::{Class, leading_of};
 
@@ -25,7 +25,7 @@ pub(crate) struct Numbered<'a> {
 
 fn value_of(digits: &[u8]) -> usize
     requires { length digits.now ≤ 4 }
-    ensures { result ≡ value_of digits.now }
+    ensures { result ≡ value_of_digits digits.now }
 {
     let mut n = 0;
     for b in digits {

@@ -1,7 +1,7 @@
 use Rattle.std.proofs.Common.{ℕ, ◌+◌, ◌-◌, ◌*◌, ◌<◌, get_or, take, sym, ap, ◌∙◌, arith}
 use Rattle.std.proofs.lemmas.List.{take_all}
 use Rattle.std.proofs.lemmas.List.Sums.{fold_more}
-use Rattle.protocol.specs.Numbers.{value_of}
+use Rattle.protocol.specs.Numbers.{value_of_digits}
 use Rattle.protocol.proofs.Digits.{most_more, most_small}
 use Rattle.protocol.proofs.numbers.value_of.Goals as goal
 
@@ -20,10 +20,10 @@ loop-b-preserved c =
     let small : get_or s i 0 < 256 = omega arith in (
       inv.0,
       ap (λ (m : ℕ). m * 10 + c.saturating_sub.result) inv.1
-          ∙ ap (λ (m : ℕ). value_of (take i s) * 10 + m) c.saturating_sub.ensures
+          ∙ ap (λ (m : ℕ). value_of_digits (take i s) * 10 + m) c.saturating_sub.ensures
           ∙ sym (fold_more (λ (n b : ℕ). n * 10 + (b - 48)) 0 s i 0 c.loop-b-test.true),
       most_more i c.loop-b.n c.saturating_sub.result (omega (arith, inv.0)) inv.2 (omega arith),
     )
 
 pub returns : goal.returns
-returns c = c.loop-b.invariant.1 ∙ ap value_of (take_all c.loop-b.b-index c.args.digits.now c.loop-b-test.false)
+returns c = c.loop-b.invariant.1 ∙ ap value_of_digits (take_all c.loop-b.b-index c.args.digits.now c.loop-b-test.false)
