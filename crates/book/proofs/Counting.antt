@@ -38,28 +38,6 @@ spent_none a b r e = let h = none_is a r e in sym (scant (a + b) r (omega arith)
 pub spent_zero : (r : ℕ) → spent 0 r ≡ Some r
 spent_zero r = let h : 0 ≤ r = omega arith in let e : r - 0 ≡ r = omega arith in enough 0 r h ∙ ap (λ (n : ℕ). Some n) e
 
--- ---- the whole count, of n operators and signals by a test p, with m operators that stand
-module _ (n m : ℕ) (p : ℕ → Bool) where
-  pub fits_all : (room left : ℕ) → (n ≤ 12) × (room ≡ 12 - n) → Some left ≡ spent m room → leb (tally 16 p) left ≡ leb (tally 16 p + (n + m)) 12
-  fits_all room left e d =
-      let k = left_is _ _ _ d in
-      ⊎_elim
-      (λ x. let y : 12 < tally 16 p + (n + m) = omega (arith, e, k) in lt-leb _ _ x ∙ sym (lt-leb _ _ y))
-      (λ x. let y : tally 16 p + (n + m) ≤ 12 = omega (arith, e, k) in le-leb _ _ x ∙ sym (le-leb _ _ y))
-      (cases_lt left (tally 16 p))
-
-  pub fits_none : (room : ℕ) → (n ≤ 12) × (room ≡ 12 - n) → None ≡ spent m room → false ≡ leb (tally 16 p + (n + m)) 12
-  fits_none room e d =
-      let k = none_is _ _ d in
-      let y : 12 < tally 16 p + (n + m) = omega (arith, e, k) in
-      sym (lt-leb _ _ y)
-
-  pub fits_not : (n ≤ 12 → ⊥) → false ≡ leb (tally 16 p + (n + m)) 12
-  fits_not d =
-      let k : 12 < n = omega arith in
-      let y : 12 < tally 16 p + (n + m) = omega arith in
-      sym (lt-leb _ _ y)
-
 -- ---- the signals, one after another
 module _ (p : ℕ → Bool) (g room left : ℕ) (inv : tally g p + left ≡ room) where
   pub signal_over : g < 16 → true ≡ p g → left ≡ 0 → false ≡ leb (tally 16 p) room

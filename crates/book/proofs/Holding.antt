@@ -1,15 +1,15 @@
 -- What a book holds. Assumes nothing.
-use Rattle.std.proofs.Common.{◌≡◌, ℕ, ◌<◌, ◌≤◌, Bool, true, false, cond, leb, List, [], ◌∷◌, ◌++◌, length, get_or, replicate, Some, None, vec_items, Option, Vec, sym, refl, ap, ◌∙◌, arith}
+use Rattle.std.proofs.Common.{◌≡◌, ℕ, ◌<◌, ◌≤◌, Bool, true, false, cond, leb, List, [], ◌∷◌, ◌++◌, length, replicate, Some, None, Ok, Err, is_ok, vec_items, Option, Result, Vec, sym, refl, ap, ◌∙◌, arith}
 use lib.ListN.{length-map}
 use Rattle.std.specs.declared.alloc.Global.{Global}
-use Rattle.std.proofs.lemmas.List.{get_or-map, map_push}
-use Rattle.std.proofs.lemmas.Bool.{leb-false}
+use Rattle.std.proofs.lemmas.List.{map_push}
+use Rattle.std.proofs.lemmas.Bool.{false≢true, leb-false}
+use Rattle.std.specs.Result.{result_err}
 use Rattle.faults.specs.Refusals.{Refusal}
 use Rattle.logic.specs.Form.{Form}
 use Rattle.reading.specs.Names.{names_of}
 use Rattle.logic.specs.Basics.{basics, signals, tally}
-use Rattle.book.specs.declared.slot.Slot.{Slot}
-use Rattle.book.specs.declared.slot.Slot.TheVariants.{Empty}
+use Rattle.logic.specs.declared.formula.Formula.{Formula}
 use Rattle.book.specs.Rules.{rule_of, rules_of, together}
 use Rattle.book.specs.Names.{is_one_name}
 use Rattle.book.specs.Calls.{cause_of_declare}
@@ -32,10 +32,14 @@ room_for_name vs rs w e =
     let few = leb-false 16 (length (names_of vs)) (no_cause (is_one_name w) _ (leb 16 (length (names_of vs))) _ _ _ (sym e)) in
     omega (arith, names_long vs, few)
 
-pub none_few : basics (together (rules_of (replicate 8 Empty))) ≤ 12
+pub none_few : basics (together (rules_of (replicate 8 None))) ≤ 12
 unfolding signals tally
 none_few = omega arith
 
--- what the slot at i holds
-pub slot_at : (ss : List Slot) (i : ℕ) (d x : Slot) → i < length ss → get_or ss i d ≡ x → get_or (rules_of ss) i None ≡ rule_of x
-slot_at ss i d x h is = get_or-map rule_of ss i d None h ∙ ap rule_of is
+pub rules_long : (ss : List (Option Formula)) → length ss ≡ 8 → length (rules_of ss) ≡ 8
+rules_long ss e = length-map ss rule_of ∙ e
+
+-- a call that grants refuses nothing
+pub granted : {X E : Type 0} (r : Result X E) → true ≡ is_ok r → result_err r ≡ None
+granted (Ok x) e = refl
+granted (Err y) e = absurd (false≢true (sym e))

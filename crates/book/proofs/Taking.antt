@@ -1,9 +1,7 @@
 -- What a take comes to, cause by cause. Assumes nothing.
 use Rattle.std.proofs.Common.{◌≡◌, ℕ, ◌+◌, ◌<◌, ◌≤◌, Bool, true, false, cond, ◌||◌, leb, List, length, get_or, set, is_some, Some, None, Ok, Option, sym, refl, ap, ◌∙◌, subst, arith}
 use Rattle.std.proofs.lemmas.Bool.{leb-true}
-use Rattle.faults.specs.declared.causes.ReadingCause.{ReadingCause}
-use Rattle.faults.specs.declared.fault.Fault.{Fault}
-use Rattle.faults.specs.Refusals.{Refusal, reading_refusal}
+use Rattle.faults.specs.Refusals.{Refusal}
 use Rattle.logic.specs.Form.{Form}
 use Rattle.logic.specs.Basics.{occurs, ops, basics, tally}
 use Rattle.grammar.specs.declared.contents.Contents.{Contents}
@@ -55,10 +53,6 @@ surveyed s i t v b o eight e told d is =
     ∙ ap (λ (x : Bool). cond x None (Some (in_book 11))) d
     ∙ sym (ap (λ (n : ℕ). cond (leb n 12) None (Some (in_book 11))) (basics_counted s i v f (omega arith) free.1 (told.1 f der))))
 
--- a refusal of the survey
-pub unsurveyed : (s : State) (i : ℕ) (t : List ℕ) (e : Fault ReadingCause) (o : Option Refusal) → None ≡ cause_of_slot s i t → verdict s.names t ≡ scans.refusal e.cause e.place → o ≡ Some (reading_refusal e) → TakeCause s i t o
-unsurveyed s i t e o n v is = cause_of_text s i t o n (subst (λ (x : Verdict). TextCause x s i t o) (sym v) is)
-
 -- where a take has no cause: the slot and the length give none, the text is granted, and its formula's basics find room
 pub record Free (s : State) (i : ℕ) (t : List ℕ) : Type 0 where
   pub slot : None ≡ cause_of_slot s i t
@@ -79,10 +73,6 @@ free_from s i t None e h = free_text s i t (verdict s.names t) refl e h
 
 pub no_take_cause : (s : State) (i : ℕ) (t : List ℕ) → TakeCause s i t None → Free s i t
 no_take_cause s i t h = free_from s i t (cause_of_slot s i t) refl h
-
--- so a reading refuses nothing
-pub not_refused : {X : Type 0} (s : State) (i : ℕ) (t : List ℕ) (c : ReadingCause) (p : ℕ) → TakeCause s i t None → verdict s.names t ≡ scans.refusal c p → X
-not_refused s i t c p h v = let g = (no_take_cause s i t h).grants in let z : ◌≡◌ {A = ℕ} 0 1 = cc in absurd (omega arith)
 
 -- a take has one first cause at most
 same_text : (s : State) (i : ℕ) (t : List ℕ) (v : Verdict) (o u : Option Refusal) → v ≡ verdict s.names t → TextCause v s i t o → TextCause v s i t u → o ≡ u

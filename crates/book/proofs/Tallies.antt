@@ -1,5 +1,6 @@
 -- How a tally grows. Assumes nothing.
 use Rattle.std.proofs.Common.{◌≡◌, ℕ, zero, suc, ◌+◌, ◌-◌, ◌<◌, ◌≤◌, Bool, true, false, cond, refl, ap, ◌∙◌, add-zero, add-suc, add-one, arith}
+use Rattle.std.specs.List.{count_by, range_with_len}
 use Rattle.logic.specs.Basics.{tally}
 
 pub tally_more : (n : ℕ) (p : ℕ → Bool) → tally (n + 1) p ≡ tally n p + cond (p n) 1 0
@@ -27,3 +28,8 @@ pub tally_le : (n : ℕ) (p q : ℕ → Bool) → ((k : ℕ) → p k ≡ true �
 unfolding tally
 tally_le zero p q h = omega arith
 tally_le (suc n) p q h = let a = tally_le n p q h in let b = one_le (p n) (q n) (h n) in omega arith
+
+-- a tally is a count
+pub tally_counts : (p : ℕ → Bool) → tally 16 p ≡ count_by p (range_with_len 0 16)
+unfolding tally
+tally_counts p = omega arith

@@ -1,15 +1,14 @@
 -- The rules that slots hold. Assumes nothing.
-use Rattle.std.specs.Prelude.{List, [], ◌∷◌, map, Some, None, Option}
+use Rattle.std.specs.Prelude.{ℕ, Bool, false, List, [], ◌∷◌, map, Some, None, Option}
 use Rattle.logic.specs.Form.{Form, form_of}
-use Rattle.logic.specs.Basics.{all}
-use Rattle.book.specs.declared.slot.Slot.{Slot}
-use Rattle.book.specs.declared.slot.Slot.TheVariants.{Empty, Standing}
+use Rattle.logic.specs.Basics.{all, occurs}
+use Rattle.logic.specs.declared.formula.Formula.{Formula}
 
-abbrev pub rule_of : Slot → Option Form
-rule_of Empty = None
-rule_of (Standing f) = Some (form_of f)
+abbrev pub rule_of : Option Formula → Option Form
+rule_of None = None
+rule_of (Some f) = Some (form_of f)
 
-abbrev pub rules_of : List Slot → List (Option Form)
+abbrev pub rules_of : List (Option Formula) → List (Option Form)
 rules_of ss = map rule_of ss
 
 -- the rules that stand, in the order of their slots
@@ -21,3 +20,8 @@ standing (Some f ∷ rs) = f ∷ standing rs
 -- the standing rules as one formula
 abbrev pub together : List (Option Form) → Form
 together rs = all (standing rs)
+
+-- a rule stands there and has the signal g
+abbrev pub rule_has : ℕ → Option Form → Bool
+rule_has g None = false
+rule_has g (Some f) = occurs f g

@@ -15,7 +15,7 @@ abbrev pub fresh : State
 fresh = record { names = []; rules = replicate 8 None }
 
 abbrev pub state_of : Book → State
-state_of b = record { names = names_of (vec_items b.names); rules = rules_of (vec_items b.slots) }
+state_of b = record { names = names_of (vec_items b.names); rules = rules_of b.slots }
 
 -- one name more, which has the next number
 abbrev pub with_name : State → List ℕ → State

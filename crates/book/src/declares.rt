@@ -1,50 +1,45 @@
 // A new book, and the signals that are declared in it.
-ghost use Rattle.std.specs.Prelude.{◌≡◌, ◌+◌, ◌<◌, true, [], ◌∷◌, ◌++◌, length, replicate, is_ok, IfOk, None, vec_len, vec_capacity, MatchResult};
+ghost use Rattle.std.specs.Prelude.{◌≡◌, ◌+◌, ◌<◌, true, [], ◌∷◌, ◌++◌, length, replicate, is_ok, None, vec_len, vec_capacity, MatchResult};
 ghost use Rattle.std.specs.Option.{option_map};
+ghost use Rattle.std.specs.Result.{result_err};
 ghost use Rattle.faults.specs.Refusals.{book_refusal};
 ghost use Rattle.reading.specs.Names.{found};
-ghost use Rattle.book.specs.declared.slot.Slot.TheVariants.{Empty};
-ghost use Rattle.book.specs.Names.{is_one_name};
+ghost use Rattle.reading.specs.Tokens.{tok_of};
+ghost use Rattle.book.specs.Names.{is_one_name, name_in};
 ghost use Rattle.book.specs.Standing.{state_of, fresh};
 ghost use Rattle.book.specs.Calls.{at_zero, want_of_memory, cause_of_declare, Declared};
 
-use super::book::Book;
-use super::slot::Slot;
-use faults::{BookCause, Fault};
+use super::book::{Book, SLOTS};
+use faults::{BookCause, Cause, Fault};
+use logic::Formula;
 use memory::{Memory, copy_of};
 use reading::{Reader, Token, find_name};
-use std::alloc::AllocError;
+use std::array;
 
 const SIGNALS: usize = 16;
 
-const SLOTS: usize = 8;
+// Whether the token is a name of so many bytes.
+fn is_name_of(token: Token, len: usize) -> bool
+    ensures { result ≡ name_in len (tok_of token.entry) }
+{
+    matches!(token, Token::Name(w) if w.len() == len)
+}
 
 // Whether the text is one word that is not reserved.
 fn is_name(name: &[u8]) -> bool
     ensures { result ≡ is_one_name name.now }
 {
-    let mut reader = Reader::new(name);
-    match reader.next() {
-        Ok(first) => match first {
-            Some(p) => match p.token {
-                Token::Name(w) => w.len() == name.len(),
-                _ => false,
-            },
-            None => false,
-        },
+    match Reader::new(name).next() {
+        Ok(Some(first)) => is_name_of(first.token, name.len()),
+        Ok(None) => false,
         Err(_) => false,
     }
 }
 
-fn empty_slots<M: Memory>(memory: &M) -> Result<Vec<Slot>, AllocError>
-    ensures eight { IfOk result (λ v. (v.items ≡ replicate 8 Empty) × (vec_len v ≡ 8)) }
-    ensures honest { M.Memory.plenty memory.now → is_ok result ≡ true }
+fn empty_slots() -> [Option<Formula>; SLOTS]
+    ensures { result ≡ replicate 8 None }
 {
-    let mut slots = memory.row(SLOTS)?;
-    while slots.len() < SLOTS {
-        slots.push_reserved(Slot::Empty);
-    }
-    Ok(slots)
+    array::from_fn(|_| None)
 }
 
 // Puts a name behind the others.
@@ -63,19 +58,11 @@ impl Book {
         ensures made { MatchResult result (λ b. state_of b ≡ fresh) (λ e. book_refusal e ≡ want_of_memory) }
         ensures honest { M.Memory.plenty memory.now → is_ok result ≡ true }
     {
-        let Ok(names) = memory.row(SIGNALS) else {
-            return Err(Fault {
-                cause: BookCause::NoMemory,
-                place: 0,
-            });
-        };
-        let Ok(slots) = empty_slots(memory) else {
-            return Err(Fault {
-                cause: BookCause::NoMemory,
-                place: 0,
-            });
-        };
-        Ok(Book { names, slots })
+        let names = memory.row(SIGNALS)?;
+        Ok(Book {
+            names,
+            slots: empty_slots(),
+        })
     }
 
     // How many signals are declared.
@@ -92,20 +79,20 @@ impl Book {
         find_name(self.names.as_slice(), name)
     }
 
-    // Why the name cannot be declared, if there is a cause.
-    fn declare_cause(&self, name: &[u8]) -> Option<BookCause>
-        ensures { option_map at_zero result ≡ cause_of_declare (state_of self.now) name.now }
+    // That the name can be declared, or the first cause why it cannot.
+    fn admits(&self, name: &[u8]) -> Result<(), BookCause>
+        ensures { option_map at_zero (result_err result) ≡ cause_of_declare (state_of self.now) name.now }
     {
         if !is_name(name) {
-            return Some(BookCause::NoName);
+            return Err(BookCause::NoName);
         }
         if self.signal(name).is_some() {
-            return Some(BookCause::Declared);
+            return Err(BookCause::Declared);
         }
         if self.signals() >= SIGNALS {
-            return Some(BookCause::ManySignals);
+            return Err(BookCause::ManySignals);
         }
-        None
+        Ok(())
     }
 
     // Gives a name the next signal number.
@@ -113,15 +100,8 @@ impl Book {
         ensures declared { Declared (state_of self.old) name.now result (state_of self.new) }
         ensures honest { M.Memory.plenty memory.now → cause_of_declare (state_of self.old) name.now ≡ None → is_ok result ≡ true }
     {
-        if let Some(cause) = self.declare_cause(name) {
-            return Err(Fault { cause, place: 0 });
-        }
-        let Ok(copy) = copy_of(memory, name) else {
-            return Err(Fault {
-                cause: BookCause::NoMemory,
-                place: 0,
-            });
-        };
+        self.admits(name).map_err(|cause| cause.at(0))?;
+        let copy = copy_of(memory, name)?;
         let number = self.names.len();
         store(&mut self.names, copy);
         Ok(number)

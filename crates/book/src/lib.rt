@@ -5,7 +5,5 @@ mod book;
 mod declares;
 mod fit;
 mod rules;
-mod slot;
 
 pub use book::Book;
-pub use slot::Slot;

@@ -6,10 +6,7 @@ use std::process::Abort;
 use std::test::Fail;
 
 pub(crate) fn new_book(heap: Global) -> Result<Book, Fail> {
-    match Book::new(&heap) {
-        Ok(book) => Ok(book),
-        Err(_) => Err(Fail::new("no memory for a book")),
-    }
+    Book::new(&heap).map_err(|_| Fail::new("no memory for a book"))
 }
 
 // The signals a, b, c and so on.
@@ -21,25 +18,15 @@ pub(crate) fn book_of(rt: &impl Abort, heap: Global, signals: u8) -> Result<Book
     Ok(book)
 }
 
-pub(crate) fn is_granted<T: Drop>(answer: Result<T, Fault<BookCause>>) -> Result<(), Fail> {
-    match answer {
-        Ok(_) => Ok(()),
-        Err(_) => Err(Fail::new("refused")),
-    }
-}
-
 pub(crate) fn is_refused<T: Drop>(
     rt: &impl Abort,
     answer: Result<T, Fault<BookCause>>,
     number: u32,
     place: usize,
 ) -> Result<(), Fail> {
-    match answer {
-        Ok(_) => Err(Fail::new("granted")),
-        Err(e) => {
-            assert_eq!(rt; e.place, place);
-            assert_eq!(rt; e.cause.number(), number);
-            Ok(())
-        }
-    }
+    let Err(e) = answer else {
+        return Err(Fail::new("granted"));
+    };
+    assert_eq!(rt; (e.cause.number(), e.place), (number, place));
+    Ok(())
 }

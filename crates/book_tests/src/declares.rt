@@ -1,31 +1,15 @@
 // Declaring signals.
 use super::books::{is_refused, new_book};
-use super::memories::NoMemory;
 use book::Book;
-use faults::{BookCause, Fault};
-use std::process::Abort;
+use memory::NoMemory;
 use std::test::Fail;
-
-fn is_number(
-    rt: &impl Abort,
-    answer: Result<usize, Fault<BookCause>>,
-    number: usize,
-) -> Result<(), Fail> {
-    match answer {
-        Ok(n) => {
-            assert_eq!(rt; n, number);
-            Ok(())
-        },
-        Err(_) => Err(Fail::new("refused")),
-    }
-}
 
 #[test]
 fn numbers_from_zero(rt: HostRuntime) -> Result<(), Fail> {
     let heap = rt.alloc();
     let mut book = new_book(heap)?;
-    is_number(&rt, book.declare(&heap, b"p"), 0)?;
-    is_number(&rt, book.declare(&heap, b"q2_"), 1)?;
+    assert_eq!(rt; book.declare(&heap, b"p"), Ok(0));
+    assert_eq!(rt; book.declare(&heap, b"q2_"), Ok(1));
     is_refused(&rt, book.declare(&heap, b"p"), 13, 0)?;
     assert_eq!(rt; book.signals(), 2);
     assert_eq!(rt; book.signal(b"q2_"), Some(1));
@@ -44,7 +28,8 @@ fn texts_that_are_no_name(rt: HostRuntime) -> Result<(), Fail> {
     is_refused(&rt, book.declare(&heap, b"2p"), 12, 0)?;
     is_refused(&rt, book.declare(&heap, b"P"), 12, 0)?;
     is_refused(&rt, book.declare(&heap, b"abcdefghijklmnopq"), 12, 0)?;
-    is_number(&rt, book.declare(&heap, b"abcdefghijklmnop"), 0)
+    assert_eq!(rt; book.declare(&heap, b"abcdefghijklmnop"), Ok(0));
+    Ok(())
 }
 
 #[test]
@@ -52,7 +37,7 @@ fn sixteen_and_no_more(rt: HostRuntime) -> Result<(), Fail> {
     let heap = rt.alloc();
     let mut book = new_book(heap)?;
     for i in 0..16u8 {
-        is_number(&rt, book.declare(&heap, &[b'a' + i]), i as usize)?;
+        assert_eq!(rt; book.declare(&heap, &[b'a' + i]), Ok(i as usize));
     }
     is_refused(&rt, book.declare(&heap, b"z"), 14, 0)?;
     is_refused(&rt, book.declare(&heap, b"a"), 13, 0)?;
@@ -69,6 +54,6 @@ fn want_of_memory_comes_last(rt: HostRuntime) -> Result<(), Fail> {
     is_refused(&rt, book.declare(&NoMemory, b"p"), 30, 0)?;
     is_refused(&rt, book.declare(&NoMemory, b"until"), 12, 0)?;
     assert_eq!(rt; book.signals(), 0);
-    is_number(&rt, book.declare(&heap, b"p"), 0)?;
+    assert_eq!(rt; book.declare(&heap, b"p"), Ok(0));
     is_refused(&rt, book.declare(&NoMemory, b"p"), 13, 0)
 }

@@ -8,6 +8,4 @@ mod declares;
 #[cfg(test)]
 mod lines;
 #[cfg(test)]
-mod memories;
-#[cfg(test)]
 mod takes;

@@ -1,7 +1,7 @@
 // Taking rules into slots, and dropping them.
-use super::books::{book_of, is_granted, is_refused};
-use super::memories::NoMemory;
+use super::books::{book_of, is_refused};
 use faults::{BookCause, Cause, Layer, ReadingCause, WordCause};
+use memory::NoMemory;
 use std::test::Fail;
 
 #[test]
@@ -9,28 +9,30 @@ fn all_eight_slots(rt: HostRuntime) -> Result<(), Fail> {
     let heap = rt.alloc();
     let mut book = book_of(&rt, heap, 8)?;
     for i in 0..8u8 {
-        is_granted(book.take(&heap, i as usize, &[b'a' + i]))?;
+        assert_eq!(rt; book.take(&heap, i as usize, &[b'a' + i]), Ok(()));
     }
     is_refused(&rt, book.take(&heap, 7, b"a"), 8, 0)?;
     is_refused(&rt, book.take(&heap, 8, b"a"), 7, 0)?;
-    is_granted(book.drop_rule(7))?;
+    assert_eq!(rt; book.drop_rule(7), Ok(()));
     is_refused(&rt, book.drop_rule(7), 9, 0)?;
     is_refused(&rt, book.drop_rule(8), 7, 0)?;
-    is_granted(book.take(&heap, 7, b"a & h"))
+    assert_eq!(rt; book.take(&heap, 7, b"a & h"), Ok(()));
+    Ok(())
 }
 
 #[test]
 fn twelve_basics_and_no_more(rt: HostRuntime) -> Result<(), Fail> {
     let heap = rt.alloc();
     let mut book = book_of(&rt, heap, 4)?;
-    is_granted(book.take(&heap, 0, b"always (a -> eventually b)"))?;
-    is_granted(book.take(&heap, 1, b"next next next c & a"))?;
+    assert_eq!(rt; book.take(&heap, 0, b"always (a -> eventually b)"), Ok(()));
+    assert_eq!(rt; book.take(&heap, 1, b"next next next c & a"), Ok(()));
     is_refused(&rt, book.take(&heap, 2, b"next next next next d"), 11, 0)?;
-    is_granted(book.take(&heap, 2, b"next next next d"))?;
+    assert_eq!(rt; book.take(&heap, 2, b"next next next d"), Ok(()));
     is_refused(&rt, book.take(&heap, 3, b"eventually a"), 11, 0)?;
-    is_granted(book.take(&heap, 3, b"a & b & (c | d) & a"))?;
-    is_granted(book.drop_rule(2))?;
-    is_granted(book.take(&heap, 2, b"eventually a & always a"))
+    assert_eq!(rt; book.take(&heap, 3, b"a & b & (c | d) & a"), Ok(()));
+    assert_eq!(rt; book.drop_rule(2), Ok(()));
+    assert_eq!(rt; book.take(&heap, 2, b"eventually a & always a"), Ok(()));
+    Ok(())
 }
 
 #[test]
@@ -47,11 +49,15 @@ fn twelve_times_next(rt: HostRuntime) -> Result<(), Fail> {
         11,
         0,
     )?;
-    is_granted(book.take(
-        &heap,
-        0,
-        b"next next next next next next next next next next next next true",
-    ))
+    assert_eq!(rt;
+        book.take(
+            &heap,
+            0,
+            b"next next next next next next next next next next next next true",
+        ),
+        Ok(())
+    );
+    Ok(())
 }
 
 #[test]
@@ -62,7 +68,7 @@ fn long_texts(rt: HostRuntime) -> Result<(), Fail> {
     assert!(rt; text.len() == 513);
     text[0] = b'a';
     is_refused(&rt, book.take(&heap, 0, text.as_slice()), 10, 512)?;
-    is_granted(book.take(&heap, 0, &text[0..512]))?;
+    assert_eq!(rt; book.take(&heap, 0, &text[0..512]), Ok(()));
     is_refused(&rt, book.take(&heap, 0, text.as_slice()), 8, 0)
 }
 
@@ -74,20 +80,13 @@ fn faults_of_the_words_come_whole(rt: HostRuntime) -> Result<(), Fail> {
     is_refused(&rt, book.take(&heap, 0, b"( a"), 4, 3)?;
     is_refused(&rt, book.take(&heap, 0, b"a b"), 3, 2)?;
     is_refused(&rt, book.take(&heap, 0, b"a & z"), 5, 4)?;
-    match book.take(&heap, 0, b"a -b") {
-        Ok(_) => Err(Fail::new("granted")),
-        Err(e) => {
-            assert_eq!(rt; e.place, 2);
-            assert_eq!(rt; e.cause.layer(), Layer::Words);
-            assert!(rt;
-                matches!(
-                    e.cause,
-                    BookCause::Reading(ReadingCause::Words(WordCause::NoToken))
-                )
-            );
-            Ok(())
-        }
-    }
+    let Err(e) = book.take(&heap, 0, b"a -b") else {
+        return Err(Fail::new("granted"));
+    };
+    let cause = BookCause::Reading(ReadingCause::Words(WordCause::NoToken));
+    assert_eq!(rt; e, cause.at(2));
+    assert_eq!(rt; e.cause.layer(), Layer::Words);
+    Ok(())
 }
 
 #[test]
@@ -106,6 +105,6 @@ fn want_of_memory_comes_last(rt: HostRuntime) -> Result<(), Fail> {
         11,
         0,
     )?;
-    is_granted(book.take(&NoMemory, 0, b"a"))?;
+    assert_eq!(rt; book.take(&NoMemory, 0, b"a"), Ok(()));
     is_refused(&rt, book.take(&NoMemory, 0, b"not a"), 8, 0)
 }

@@ -3,7 +3,7 @@
 
 use anyhow::anyhow;
 use book::Book;
-use protocol::{answer_text, first_line, read_input, respond};
+use protocol::{answer_text, lines_in, read_input, respond};
 
 fn run(rt: &HostRuntime) -> anyhow::Result<()> {
     let memory = rt.alloc();
@@ -11,12 +11,10 @@ fn run(rt: &HostRuntime) -> anyhow::Result<()> {
     let Ok(mut book) = Book::new(&memory) else {
         return Err(anyhow!("no memory for a book"));
     };
-    let mut rest = input.as_slice();
-    while let Some(cut) = first_line(rest) {
-        let answer = respond(&mut book, &memory, cut.line);
+    for line in lines_in(input.as_slice()) {
+        let answer = respond(&mut book, &memory, line);
         let text = answer_text(memory, &answer)?;
         println!(rt; "{text}")?;
-        rest = cut.rest;
     }
     Ok(())
 }

@@ -2,6 +2,7 @@
 #![tactic(auto)]
 
 mod counts;
+mod graphs;
 mod polish;
 mod reads;
 mod searches;

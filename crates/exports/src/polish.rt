@@ -1,56 +1,44 @@
 // A formula as a row of bytes, each operator before its operands: for comparisons only, so that no contract speaks of the bytes.
 use logic::Formula;
 
+// The row is lent from outside; what finds no room is left out.
 fn put(out: &mut [u8], at: usize, b: u8) -> usize {
-    if at < out.len() {
-        out[at] = b;
-        at + 1
-    } else {
-        at
+    match out.get_mut(at) {
+        Some(place) => {
+            *place = b;
+            at.saturating_add(1)
+        }
+        None => at,
     }
 }
 
-// Writes the formula from `at` on, as far as there is room, and answers where it ends:
 // 1, 0, a signal's letter from a on, and ! X G F & | > U.
-pub(crate) fn put_formula(out: &mut [u8], at: usize, f: &Formula) -> usize {
+fn symbol_of(f: &Formula) -> u8 {
     match f {
-        Formula::True => put(out, at, b'1'),
-        Formula::False => put(out, at, b'0'),
-        Formula::Signal(g) => put(out, at, b'a'.saturating_add(*g)),
-        Formula::Not(f) => {
-            let next = put(out, at, b'!');
+        Formula::True => b'1',
+        Formula::False => b'0',
+        Formula::Signal(g) => b'a'.saturating_add(*g),
+        Formula::Not(_) => b'!',
+        Formula::Next(_) => b'X',
+        Formula::Always(_) => b'G',
+        Formula::Eventually(_) => b'F',
+        Formula::And(_, _) => b'&',
+        Formula::Or(_, _) => b'|',
+        Formula::Implies(_, _) => b'>',
+        Formula::Until(_, _) => b'U',
+    }
+}
+
+// Writes the formula from `at` on, as far as there is room, and answers where it ends.
+pub(crate) fn put_formula(out: &mut [u8], at: usize, f: &Formula) -> usize {
+    let next = put(out, at, symbol_of(f));
+    match f {
+        Formula::True | Formula::False | Formula::Signal(_) => next,
+        Formula::Not(f) | Formula::Next(f) | Formula::Always(f) | Formula::Eventually(f) => {
             put_formula(out, next, f)
         }
-        Formula::Next(f) => {
-            let next = put(out, at, b'X');
-            put_formula(out, next, f)
-        }
-        Formula::Always(f) => {
-            let next = put(out, at, b'G');
-            put_formula(out, next, f)
-        }
-        Formula::Eventually(f) => {
-            let next = put(out, at, b'F');
-            put_formula(out, next, f)
-        }
-        Formula::And(f, g) => {
-            let first = put(out, at, b'&');
-            let second = put_formula(out, first, f);
-            put_formula(out, second, g)
-        }
-        Formula::Or(f, g) => {
-            let first = put(out, at, b'|');
-            let second = put_formula(out, first, f);
-            put_formula(out, second, g)
-        }
-        Formula::Implies(f, g) => {
-            let first = put(out, at, b'>');
-            let second = put_formula(out, first, f);
-            put_formula(out, second, g)
-        }
-        Formula::Until(f, g) => {
-            let first = put(out, at, b'U');
-            let second = put_formula(out, first, f);
+        Formula::And(f, g) | Formula::Or(f, g) | Formula::Implies(f, g) | Formula::Until(f, g) => {
+            let second = put_formula(out, next, f);
             put_formula(out, second, g)
         }
     }

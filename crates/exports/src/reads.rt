@@ -6,6 +6,7 @@ use memory::copy_of;
 use std::alloc::{AllocError, Global};
 
 // What came of a text: number 0 where it is a formula, whose bytes then stand in front of the lent row, so many; 30 for want of memory.
+// Numbers and not a Result, since C reads it.
 #[repr(C)]
 pub struct ReadAnswer {
     pub number: u32,
@@ -41,11 +42,10 @@ pub extern "C" fn mehaldub_read(
             answer.number = 0;
             answer.len = put_formula(out, 0, &f);
         }
-        Err(why) => {
-            if let Unread::Refused(e) = why {
-                answer.number = e.cause.number();
-                answer.place = e.place;
-            }
+        Err(Unread::Refused(e)) => {
+            answer.number = e.cause.number();
+            answer.place = e.place;
         }
+        Err(Unread::NoMemory) => {}
     }
 }

@@ -1,11 +1,12 @@
 // Searching a table, from outside: for comparisons.
-use faults::Cause;
-use plant::Plant;
-use search::search;
+use super::graphs::Graph;
+use faults::{Cause, Fault};
+use search::{Shape, search};
 use std::alloc::{AllocError, Global};
-use table::{EdgeRow, StateRow, Table};
+use table::{EdgeRow, StateRow};
 
 // What came of a search: number 0 where it was granted; found is 1 where there is a fair walk of this stem and loop; 30 for want of memory.
+// Numbers and not a Result, since C reads it.
 #[repr(C)]
 pub struct SearchAnswer {
     pub number: u32,
@@ -15,31 +16,29 @@ pub struct SearchAnswer {
     pub turn: usize,
 }
 
-// The rows of a table.
-#[derive(Drop)]
-struct Graph {
-    states: Vec<StateRow>,
-    edges: Vec<EdgeRow>,
-}
-
-fn state_rows(heap: Global, starts: &[u32], fulfils: &[u32]) -> Result<Vec<StateRow>, AllocError> {
-    let mut rows = Vec::new(heap);
-    for (start, bits) in starts.iter().zip(fulfils.iter()) {
-        rows.push(StateRow {
-            start: *start != 0,
-            fulfils: *bits,
-            marks: u32::MAX,
-        })?;
+impl SearchAnswer {
+    // What there is before the table is made: want of memory.
+    fn begin(&mut self) {
+        self.number = 30;
+        self.place = 0;
+        self.found = 0;
+        self.stem = 0;
+        self.turn = 0;
     }
-    Ok(rows)
-}
 
-fn edge_rows(heap: Global, from: &[u32], to: &[u32]) -> Result<Vec<EdgeRow>, AllocError> {
-    let mut rows = Vec::new(heap);
-    for (a, b) in from.iter().zip(to.iter()) {
-        rows.push(EdgeRow { from: *a, to: *b })?;
+    fn refused<C: Cause + Drop>(&mut self, fault: Fault<C>) {
+        self.number = fault.cause.number();
+        self.place = fault.place;
     }
-    Ok(rows)
+
+    fn searched(&mut self, found: Option<Shape>) {
+        self.number = 0;
+        if let Some(shape) = found {
+            self.found = 1;
+            self.stem = shape.stem;
+            self.turn = shape.turn;
+        }
+    }
 }
 
 fn graph_of(
@@ -49,32 +48,18 @@ fn graph_of(
     from: &[u32],
     to: &[u32],
 ) -> Result<Graph, AllocError> {
-    Ok(Graph {
-        states: state_rows(heap, starts, fulfils)?,
-        edges: edge_rows(heap, from, to)?,
-    })
-}
-
-fn search_plant<P: Plant>(
-    plant: &P,
-    work: &mut [u32],
-    walk: &mut [u32],
-    answer: &mut SearchAnswer,
-) {
-    match search(plant, work, walk) {
-        Ok(found) => {
-            answer.number = 0;
-            if let Some(shape) = found {
-                answer.found = 1;
-                answer.stem = shape.stem;
-                answer.turn = shape.turn;
-            }
-        }
-        Err(e) => {
-            answer.number = e.cause.number();
-            answer.place = e.place;
-        }
+    let mut graph = Graph::new(heap);
+    for (start, bits) in starts.iter().zip(fulfils) {
+        graph.states.push(StateRow {
+            start: *start != 0,
+            fulfils: *bits,
+            marks: u32::MAX,
+        })?;
     }
+    for (a, b) in from.iter().zip(to) {
+        graph.edges.push(EdgeRow { from: *a, to: *b })?;
+    }
+    Ok(graph)
 }
 
 fn search_graph(
@@ -84,17 +69,17 @@ fn search_graph(
     walk: &mut [u32],
     answer: &mut SearchAnswer,
 ) {
-    let mut table = Table::new();
-    match table.load(graph.states.as_slice(), graph.edges.as_slice(), promises) {
-        Ok(()) => search_plant(&table, work, walk, answer),
-        Err(e) => {
-            answer.number = e.cause.number();
-            answer.place = e.place;
-        }
+    match graph.table(promises) {
+        Ok(table) => match search(&table, work, walk) {
+            Ok(found) => answer.searched(found),
+            Err(fault) => answer.refused(fault),
+        },
+        Err(fault) => answer.refused(fault),
     }
 }
 
 // Searches the table of these rows: for each state a start flag and its promises, and for each edge its ends.
+// Rows of numbers side by side, since C lends them.
 #[unsafe(no_mangle)]
 pub extern "C" fn mehaldub_search_table(
     heap: Global,
@@ -107,11 +92,7 @@ pub extern "C" fn mehaldub_search_table(
     walk: &mut [u32],
     answer: &mut SearchAnswer,
 ) {
-    answer.number = 30;
-    answer.place = 0;
-    answer.found = 0;
-    answer.stem = 0;
-    answer.turn = 0;
+    answer.begin();
     if let Ok(graph) = graph_of(heap, starts, fulfils, from, to) {
         search_graph(&graph, promises, work, walk, answer);
     }

@@ -1,3 +1,4 @@
 pub mod Numbers
 pub mod Layers
 pub mod Refusals
+pub mod Carried

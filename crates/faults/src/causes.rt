@@ -1,6 +1,6 @@
 // The causes of each layer. A lower layer's cause is carried whole.
 
-#[derive(Clone, Copy)]
+#[derive(Clone, Copy, PartialEq, Eq, Debug)]
 pub enum WordCause {
     // a byte that begins no token
     NoToken,
@@ -8,7 +8,7 @@ pub enum WordCause {
     LongWord,
 }
 
-#[derive(Clone, Copy)]
+#[derive(Clone, Copy, PartialEq, Eq, Debug)]
 pub enum ReadingCause {
     Words(WordCause),
     // a token that does not fit
@@ -21,7 +21,7 @@ pub enum ReadingCause {
     ManyTokens,
 }
 
-#[derive(Clone, Copy)]
+#[derive(Clone, Copy, PartialEq, Eq, Debug)]
 pub enum PlantCause {
     // too many state rows, edge rows or promises
     Large,
@@ -31,7 +31,7 @@ pub enum PlantCause {
     BadEdge,
 }
 
-#[derive(Clone, Copy)]
+#[derive(Clone, Copy, PartialEq, Eq, Debug)]
 pub enum SearchCause {
     // the machine to be searched is unfit
     Unfit,
@@ -41,7 +41,7 @@ pub enum SearchCause {
     ShortSheet,
 }
 
-#[derive(Clone, Copy)]
+#[derive(Clone, Copy, PartialEq, Eq, Debug)]
 pub enum BookCause {
     Reading(ReadingCause),
     Search(SearchCause),
@@ -69,7 +69,7 @@ pub enum BookCause {
     NoMemory,
 }
 
-#[derive(Clone, Copy)]
+#[derive(Clone, Copy, PartialEq, Eq, Debug)]
 pub enum ConsoleCause {
     Book(BookCause),
     // a line of no known form

@@ -1,13 +1,26 @@
 // A refusal: its cause, and its place.
-ghost use Rattle.std.specs.Prelude.{◌++◌, Some, codes, decimal};
+ghost use Rattle.std.specs.Prelude.{◌≡◌, ◌++◌, Some, codes, decimal};
 
 use super::numbers::Cause;
 use std::fmt;
 
-#[derive(Clone, Copy)]
+#[derive(Clone, Copy, PartialEq, Eq, Debug)]
 pub struct Fault<C> {
     pub cause: C,
     pub place: usize,
+}
+
+impl<C> Fault<C> {
+    // The refusal of the layer above, whose cause holds this one.
+    pub(crate) fn carried<D: From<C>>(self) -> Fault<D>
+        ensures cause { D.From.from_gives self.cause result.cause }
+        ensures place { result.place ≡ self.place }
+    {
+        Fault {
+            cause: D::from(self.cause),
+            place: self.place,
+        }
+    }
 }
 
 impl<C: Cause> fmt::Display for Fault<C> {

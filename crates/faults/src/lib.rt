@@ -1,6 +1,7 @@
 // Why a call is refused, and where: the whole table of refusals.
 #![tactic(auto)]
 
+mod carried;
 mod causes;
 mod fault;
 mod layer;
@@ -10,3 +11,6 @@ pub use causes::{BookCause, ConsoleCause, PlantCause, ReadingCause, SearchCause,
 pub use fault::Fault;
 pub use layer::Layer;
 pub use numbers::Cause;
+
+#[cfg(test)]
+mod tests;

@@ -5,6 +5,7 @@ ghost use Rattle.faults.specs.Numbers.{word_number, reading_number, plant_number
 ghost use Rattle.faults.specs.Layers.{word_layer, reading_layer, plant_layer, search_layer, book_layer, console_layer};
 
 use super::causes::{BookCause, ConsoleCause, PlantCause, ReadingCause, SearchCause, WordCause};
+use super::fault::Fault;
 use super::layer::Layer;
 
 // A cause that says its number and its layer.
@@ -18,6 +19,15 @@ pub trait Cause {
 
     fn layer(&self) -> Layer
         ensures { result ≡ layered self.now };
+
+    // A refusal for this cause, at this place.
+    final fn at(self, place: usize) -> Fault<Self>
+    where
+        Self: Sized,
+        ensures { result ≡ record { cause = self; place = place } }
+    {
+        Fault { cause: self, place }
+    }
 }
 
 impl Cause for WordCause {

@@ -1,6 +1,5 @@
 -- The names that can be declared, as a part of the caller's. Assumes nothing.
-use Rattle.std.proofs.Common.{◌≡◌, ℕ, ◌-◌, ◌≤◌, min, List, length, take, vec_items, Vec, sym, ap, ◌∙◌, inl, inr, arith}
-use native.Mathlib.Nat.{sub-zero}
+use Rattle.std.proofs.Common.{◌≡◌, ℕ, ◌≤◌, min, List, length, take, vec_items, Vec, sym, ap, ◌∙◌, inl, inr, arith}
 use Rattle.std.specs.declared.alloc.Global.{Global}
 use Rattle.std.proofs.lemmas.List.{take_all, take-map}
 use Rattle.std.proofs.lemmas.Bool.{cases_lt}
@@ -13,5 +12,5 @@ front xs n e = elim (cases_lt 16 (length xs)) [
   | inr h ↦ (let k : length xs ≤ n = omega arith in take_all n xs k ∙ sym (take_all 16 xs h))
 ]
 
-pub within_sixteen : (ns : List (Vec ℕ Global)) (w : List ℕ) (n : ℕ) → n ≡ min (length ns) 16 → found (names_of (take (n - 0) ns)) w 0 ≡ signal_named (names_of ns) w
-within_sixteen ns w n e = ap (λ xs. found (names_of xs) w 0) (ap (λ k. take k ns) (sub-zero n) ∙ front ns n e) ∙ ap (λ xs. found xs w 0) (sym (take-map vec_items 16 ns))
+pub within_sixteen : (ns : List (Vec ℕ Global)) (w : List ℕ) (n : ℕ) → n ≡ min (length ns) 16 → found (names_of (take n ns)) w 0 ≡ signal_named (names_of ns) w
+within_sixteen ns w n e = ap (λ xs. found (names_of xs) w 0) (front ns n e) ∙ ap (λ xs. found xs w 0) (sym (take-map vec_items 16 ns))

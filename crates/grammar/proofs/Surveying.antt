@@ -5,7 +5,8 @@ use Rattle.grammar.specs.declared.state.State.{State}
 use Rattle.grammar.specs.declared.stand.Stand.{Stand}
 use Rattle.grammar.specs.declared.contents.Contents.{Contents}
 use Rattle.grammar.specs.Limits.{end, tokens}
-use Rattle.grammar.specs.Scan.{scan, verdict}
+use Rattle.grammar.specs.Scan.{verdict}
+use Rattle.grammar.specs.Stands.{depth_of, scan_at}
 use Rattle.grammar.specs.Grammar.{Derives}
 use Rattle.grammar.specs.Counts.{ops_in, mentions}
 use Rattle.grammar.specs.Answers.{Tells}
@@ -16,8 +17,8 @@ use Rattle.grammar.proofs.Counting.{ops_in_read, mentions_read}
 -- what the tokens so far tell, and what is left, make up the whole text
 pub record Sofar (names : List (List ℕ)) (text : List ℕ) (s : State) (at : Stand) (seen : Contents) : Type 0 where
   pub same_text : s.reader.text.now ≡ text
-  pub fits : verdict names text ≡ scan names (stream_of s) at.due at.depth
-  pub shallow : at.depth + left s ≤ length text
+  pub fits : verdict names text ≡ scan_at names (stream_of s) at
+  pub shallow : depth_of at + left s ≤ length text
   pub counted : seen.operators + ops_in (stream_of s) ≡ ops_in (tokens text)
   pub marked : (g : ℕ) → g < 16 → (get_or seen.signals g false || mentions names (stream_of s) g) ≡ mentions names (tokens text) g
 
@@ -31,8 +32,8 @@ module _ (names : List (List ℕ)) (text : List ℕ) (s : State) (at : Stand) (s
     over : stream_of s ≡ end (length text)
     over = ap (λ o. ahead_on o (length s.reader.text.now) (after s)) is ∙ ap (λ t. end (length t)) sofar.same_text
 
-    pub at_end : verdict names text ≡ scan names (end (length text)) at.due at.depth
-    at_end = sofar.fits ∙ ap (λ x. scan names x at.due at.depth) over
+    pub at_end : verdict names text ≡ scan_at names (end (length text)) at
+    at_end = sofar.fits ∙ ap (λ x. scan_at names x at) over
 
     pub tells : (f : Form) → Derives names text f → Tells seen f
     tells f d =

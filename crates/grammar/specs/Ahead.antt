@@ -1,7 +1,6 @@
 -- What a reading has yet to read, and what stands ahead of it. Assumes nothing.
 use Rattle.std.specs.Prelude.{◌≡◌, ℕ, true, List, length, is_some, Some, None, Ok, Err, Option, Result}
 use Rattle.faults.specs.declared.causes.ReadingCause.{ReadingCause}
-use Rattle.faults.specs.declared.causes.ReadingCause.TheVariants.{Misfit}
 use Rattle.faults.specs.declared.fault.Fault.{Fault}
 use Rattle.reading.specs.Tokens.{Tok, open', close', and', or', implies', until', not', next', always', eventually', true', false', name', tok_of}
 use Rattle.reading.specs.Rows.{row_from}
@@ -64,12 +63,22 @@ op_rank (more true' p s) = 5
 op_rank (more false' p s) = 5
 op_rank (more (name' w) p s) = 5
 
-abbrev pub InfixIs : State → Infix → Type 0
-InfixIs s ops.Implies = On s implies'
-InfixIs s ops.Or = On s or'
-InfixIs s ops.And = On s and'
-InfixIs s ops.Until = On s until'
-InfixIs s ops.Other = op_rank (stream_of s) ≡ 5
+abbrev pub infix_tok : Infix → Tok
+infix_tok ops.Implies = implies'
+infix_tok ops.Or = or'
+infix_tok ops.And = and'
+infix_tok ops.Until = until'
+
+-- how loosely an operator binds: the tightest is 1
+abbrev pub infix_rank : Infix → ℕ
+infix_rank ops.Implies = 4
+infix_rank ops.Or = 3
+infix_rank ops.And = 2
+infix_rank ops.Until = 1
+
+abbrev pub InfixIs : State → Option Infix → Type 0
+InfixIs s (Some op) = On s (infix_tok op)
+InfixIs s None = op_rank (stream_of s) ≡ 5
 
 abbrev pub prefix_tok : Prefix → Tok
 prefix_tok pre.Not = not'
@@ -88,13 +97,12 @@ infix_form ops.Implies f g = implies f g
 infix_form ops.Or f g = or_form f g
 infix_form ops.And f g = and_form f g
 infix_form ops.Until f g = until f g
-infix_form ops.Other f g = f
 
-abbrev pub DueIs : State → Due → Type 0
-DueIs s due.True = On s true'
-DueIs s due.False = On s false'
-DueIs s (due.Name w) = On s (name' w.now)
-DueIs s (due.Prefix o) = On s (prefix_tok o)
-DueIs s due.Open = On s open'
-DueIs s due.Misfit = (names : List (List ℕ)) (d : ℕ) → scan names (stream_of s) true d ≡ refusal Misfit (place_of s)
-DueIs s due.End = stream_of s ≡ end (place_of s)
+-- how an operand begins, or the refusal of what stands ahead
+abbrev pub DueIs : State → Result Due (Fault ReadingCause) → Type 0
+DueIs s (Ok due.True) = On s true'
+DueIs s (Ok due.False) = On s false'
+DueIs s (Ok (due.Name w)) = On s (name' w.now)
+DueIs s (Ok (due.Prefix o)) = On s (prefix_tok o)
+DueIs s (Ok due.Open) = On s open'
+DueIs s (Err e) = (names : List (List ℕ)) (d : ℕ) → scan names (stream_of s) true d ≡ refusal e.cause e.place

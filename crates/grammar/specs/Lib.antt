@@ -10,3 +10,4 @@ pub mod Stands
 pub mod Left
 pub mod Ahead
 pub mod Parts
+pub mod Untaken

@@ -1,12 +1,12 @@
 -- What the reading functions answer of a part of a text. Assumes nothing.
-use Rattle.std.specs.Prelude.{◌≡◌, ℕ, ◌+◌, ◌<◌, true, false, List, Ok, Err, Result}
+use Rattle.std.specs.Prelude.{◌≡◌, ℕ, ◌+◌, ◌<◌, Bool, true, false, List, Ok, Err, Result}
 use Rattle.faults.specs.declared.causes.ReadingCause.{ReadingCause}
 use Rattle.faults.specs.declared.fault.Fault.{Fault}
 use Rattle.reading.specs.Tokens.{close'}
 use Rattle.logic.specs.declared.formula.Formula.{Formula}
 use Rattle.logic.specs.Form.{form_of}
-use Rattle.grammar.specs.declared.parse.Level.{Level}
-use Rattle.grammar.specs.declared.parse.Level.TheVariants as levels
+use Rattle.grammar.specs.declared.state.Infix.{Infix}
+use Rattle.grammar.specs.declared.state.Infix.TheVariants as ops
 use Rattle.grammar.specs.declared.unread.Unread.{Unread}
 use Rattle.grammar.specs.declared.unread.Unread.TheVariants.{Refused, NoMemory}
 use Rattle.grammar.specs.Limits.{Stream, more}
@@ -30,10 +30,25 @@ rung_rank ands = 2
 rung_rank ors = 3
 rung_rank whole = 4
 
-abbrev pub rung_of : Level → Rung
-rung_of levels.Implies = whole
-rung_of levels.Or = ors
-rung_of levels.And = ands
+-- the formulas whose loosest operator is this one
+abbrev pub rung_of : Infix → Rung
+rung_of ops.Implies = whole
+rung_of ops.Or = ors
+rung_of ops.And = ands
+rung_of ops.Until = untils
+
+-- those that bind tighter
+abbrev pub rung_under : Infix → Rung
+rung_under ops.Implies = ors
+rung_under ops.Or = ands
+rung_under ops.And = untils
+rung_under ops.Until = atom
+
+abbrev pub to_the_right : Infix → Bool
+to_the_right ops.Implies = true
+to_the_right ops.Or = false
+to_the_right ops.And = false
+to_the_right ops.Until = true
 
 -- a formula of the level was read, and no operator that belongs to it follows; or the refusal is right
 abbrev pub Answered : List (List ℕ) → Type 0 → Rung → Stream → Stream → Result Formula Unread → Type 0

@@ -8,7 +8,7 @@ ghost use Rattle.grammar.specs.Answers.{SurveyedAs};
 use super::signal::signal_of;
 use super::stand::Stand;
 use super::state::State;
-use faults::{Fault, ReadingCause};
+use faults::{Cause, Fault, ReadingCause};
 use reading::Token;
 
 // What the formula of a text holds.
@@ -23,13 +23,10 @@ pub struct Contents {
 fn looks_ahead(token: Token) -> bool
     ensures { result ≡ is_temporal (tok_of token.entry) }
 {
-    match token {
-        Token::Until => true,
-        Token::Next => true,
-        Token::Always => true,
-        Token::Eventually => true,
-        _ => false,
-    }
+    matches!(
+        token,
+        Token::Until | Token::Next | Token::Always | Token::Eventually
+    )
 }
 
 // The signal that a token names.
@@ -67,7 +64,7 @@ pub fn survey(names: &[Vec<u8>], text: &[u8]) -> Result<Contents, Fault<ReadingC
     ensures { SurveyedAs (names_of names.now) text.now result }
 {
     let mut s = State::new(text);
-    let mut at = Stand::new();
+    let mut at = Stand::Due(0);
     let mut seen = Contents {
         operators: 0,
         signals: [false; 16],
@@ -81,9 +78,6 @@ pub fn survey(names: &[Vec<u8>], text: &[u8]) -> Result<Contents, Fault<ReadingC
     if at.is_whole() {
         Ok(seen)
     } else {
-        Err(Fault {
-            cause: ReadingCause::Unfinished,
-            place: text.len(),
-        })
+        Err(ReadingCause::Unfinished.at(text.len()))
     }
 }

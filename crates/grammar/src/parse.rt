@@ -1,80 +1,27 @@
-// The grammar as functions that call each other: `until` and `->` group to the right, `&` and `|` to the left.
-ghost use Rattle.std.specs.Prelude.{◌≡◌, ℕ, ◌<◌, List, MatchResult};
+// The grammar as methods that call each other: `until` and `->` group to the right, `&` and `|` to the left.
+ghost use Rattle.std.specs.Prelude.{◌≡◌, ℕ, ◌<◌, true, false, List, MatchResult};
 ghost use Rattle.logic.specs.Form.{form_of};
 ghost use Rattle.reading.specs.Names.{names_of};
-ghost use Rattle.grammar.specs.Grammar.{atom, untils};
+ghost use Rattle.grammar.specs.Grammar.{atom};
 ghost use Rattle.grammar.specs.Answers.{ReadAs};
 ghost use Rattle.grammar.specs.Left.{left, Falls};
 ghost use Rattle.grammar.specs.Ahead.{infix_form, prefix_form, stream_of, op_rank};
-ghost use Rattle.grammar.specs.Parts.{Starved, Shut, Answered, rung_of};
+ghost use Rattle.grammar.specs.Parts.{Starved, Shut, Answered, rung_of, rung_under, to_the_right};
 
 use super::contents::survey;
 use super::signal::signal_of;
 use super::state::{Due, Infix, Prefix, State};
 use super::unread::Unread;
-use faults::{Fault, ReadingCause};
+use faults::{Cause, Fault, ReadingCause};
 use logic::Formula;
 use memory::Memory;
 use reading::Token;
 
-#[derive(Clone, Copy)]
-enum Level {
-    Implies,
-    Or,
-    And,
-}
-
-fn boxed<M: Memory>(memory: &M, f: Formula) -> Result<Box<Formula>, Unread>
-    ensures { MatchResult result (λ b. b.value ≡ f) (λ e. Starved (M.Memory.plenty memory.now) e) }
-{
-    match memory.boxed(f) {
-        Ok(b) => Ok(b),
-        Err(_) => Err(Unread::NoMemory),
-    }
-}
-
-fn prefixed<M: Memory>(memory: &M, op: Prefix, f: Formula) -> Result<Formula, Unread>
-    ensures { MatchResult result (λ g. form_of g ≡ prefix_form op (form_of f)) (λ e. Starved (M.Memory.plenty memory.now) e) }
-{
-    let f = boxed(memory, f)?;
-    match op {
-        Prefix::Not => Ok(Formula::Not(f)),
-        Prefix::Next => Ok(Formula::Next(f)),
-        Prefix::Always => Ok(Formula::Always(f)),
-        Prefix::Eventually => Ok(Formula::Eventually(f)),
-    }
-}
-
-fn until<M: Memory>(memory: &M, f: Formula, g: Formula) -> Result<Formula, Unread>
-    ensures { MatchResult result (λ h. form_of h ≡ infix_form Infix.Until (form_of f) (form_of g)) (λ e. Starved (M.Memory.plenty memory.now) e) }
-{
-    let f = boxed(memory, f)?;
-    let g = boxed(memory, g)?;
-    Ok(Formula::Until(f, g))
-}
-
-fn implies<M: Memory>(memory: &M, f: Formula, g: Formula) -> Result<Formula, Unread>
-    ensures { MatchResult result (λ h. form_of h ≡ infix_form Infix.Implies (form_of f) (form_of g)) (λ e. Starved (M.Memory.plenty memory.now) e) }
-{
-    let f = boxed(memory, f)?;
-    let g = boxed(memory, g)?;
-    Ok(Formula::Implies(f, g))
-}
-
-fn or<M: Memory>(memory: &M, f: Formula, g: Formula) -> Result<Formula, Unread>
-    ensures { MatchResult result (λ h. form_of h ≡ infix_form Infix.Or (form_of f) (form_of g)) (λ e. Starved (M.Memory.plenty memory.now) e) }
-{
-    let f = boxed(memory, f)?;
-    let g = boxed(memory, g)?;
-    Ok(Formula::Or(f, g))
-}
-
-fn and<M: Memory>(memory: &M, f: Formula, g: Formula) -> Result<Formula, Unread>
-    ensures { MatchResult result (λ h. form_of h ≡ infix_form Infix.And (form_of f) (form_of g)) (λ e. Starved (M.Memory.plenty memory.now) e) }
-{
-    let f = boxed(memory, f)?;
-    let g = boxed(memory, g)?;
-    Ok(Formula::And(f, g))
+// What a reading is given: memory for its formulas, and the declared names.
+#[derive(Drop)]
+struct Parser<'a, M: Memory> {
+    memory: &'a M,
+    names: &'a [Vec<u8>],
 }
 
 fn close(s: &mut State) -> Result<(), Fault<ReadingCause>>
@@ -83,123 +30,137 @@ fn close(s: &mut State) -> Result<(), Fault<ReadingCause>>
     ensures falls { Falls result (left s.new) (left s.old) }
 {
     let Some(p) = s.ahead else {
-        return Err(Fault {
-            cause: ReadingCause::Unfinished,
-            place: s.reader.text_len(),
-        });
+        return Err(s.refusal(ReadingCause::Unfinished));
     };
     match p.token {
         Token::Close => s.advance(),
-        _ => Err(Fault {
-            cause: ReadingCause::Misfit,
-            place: p.place,
-        }),
+        _ => Err(s.refusal(ReadingCause::Misfit)),
     }
 }
 
-#[cycle(formula_operand_until_level)]
-fn operand<M: Memory>(memory: &M, names: &[Vec<u8>], s: &mut State) -> Result<Formula, Unread>
-    ensures read { Answered (names_of names.now) (M.Memory.plenty memory.now) atom (stream_of s.old) (stream_of s.new) result }
-    ensures falls { Falls result (left s.new) (left s.old) }
-{
-    let place = s.place();
-    match s.due() {
-        Due::True => {
-            s.advance()?;
-            Ok(Formula::True)
-        }
-        Due::False => {
-            s.advance()?;
-            Ok(Formula::False)
-        }
-        Due::Name(name) => {
-            let Some(g) = signal_of(names, name) else {
-                return Err(Unread::Refused(Fault {
-                    cause: ReadingCause::Undeclared,
-                    place,
-                }));
-            };
-            s.advance()?;
-            Ok(Formula::Signal(g))
-        }
-        Due::Prefix(op) => {
-            s.advance()?;
-            let f = operand(memory, names, s)?;
-            prefixed(memory, op, f)
-        }
-        Due::Open => {
-            s.advance()?;
-            let f = formula(memory, names, s, Level::Implies)?;
-            close(s)?;
-            Ok(f)
-        }
-        Due::Misfit => Err(Unread::Refused(Fault {
-            cause: ReadingCause::Misfit,
-            place,
-        })),
-        Due::End => Err(Unread::Refused(Fault {
-            cause: ReadingCause::Unfinished,
-            place,
-        })),
+impl<'a, M: Memory> Parser<'a, M> {
+    fn boxed(&self, f: Formula) -> Result<Box<Formula>, Unread>
+        ensures { MatchResult result (λ b. b.value ≡ f) (λ e. Starved (M.Memory.plenty self.now.memory.now) e) }
+    {
+        Ok(self.memory.boxed(f)?)
     }
-}
 
-#[cycle(formula_operand_until_level)]
-fn until_level<M: Memory>(memory: &M, names: &[Vec<u8>], s: &mut State) -> Result<Formula, Unread>
-    ensures read { Answered (names_of names.now) (M.Memory.plenty memory.now) untils (stream_of s.old) (stream_of s.new) result }
-    ensures falls { Falls result (left s.new) (left s.old) }
-{
-    let f = operand(memory, names, s)?;
-    match s.infix() {
-        Infix::Until => {
-            s.advance()?;
-            let g = until_level(memory, names, s)?;
-            until(memory, f, g)
-        }
-        _ => Ok(f),
+    fn prefixed(&self, op: Prefix, f: Formula) -> Result<Formula, Unread>
+        ensures { MatchResult result (λ g. form_of g ≡ prefix_form op (form_of f)) (λ e. Starved (M.Memory.plenty self.now.memory.now) e) }
+    {
+        let f = self.boxed(f)?;
+        Ok(match op {
+            Prefix::Not => Formula::Not(f),
+            Prefix::Next => Formula::Next(f),
+            Prefix::Always => Formula::Always(f),
+            Prefix::Eventually => Formula::Eventually(f),
+        })
     }
-}
 
-#[cycle(formula_operand_until_level)]
-fn formula<M: Memory>(
-    memory: &M,
-    names: &[Vec<u8>],
-    s: &mut State,
-    level: Level,
-) -> Result<Formula, Unread>
-    ensures read { Answered (names_of names.now) (M.Memory.plenty memory.now) (rung_of level) (stream_of s.old) (stream_of s.new) result }
-    ensures falls { Falls result (left s.new) (left s.old) }
-{
-    match level {
-        Level::Implies => {
-            let f = formula(memory, names, s, Level::Or)?;
-            match s.infix() {
-                Infix::Implies => {
-                    s.advance()?;
-                    let g = formula(memory, names, s, Level::Implies)?;
-                    implies(memory, f, g)
-                }
-                _ => Ok(f),
-            }
-        }
-        Level::Or => {
-            let mut f = formula(memory, names, s, Level::And)?;
-            while let Infix::Or = s.infix() {
+    fn joined(&self, op: Infix, f: Formula, g: Formula) -> Result<Formula, Unread>
+        ensures { MatchResult result (λ h. form_of h ≡ infix_form op (form_of f) (form_of g)) (λ e. Starved (M.Memory.plenty self.now.memory.now) e) }
+    {
+        let f = self.boxed(f)?;
+        let g = self.boxed(g)?;
+        Ok(match op {
+            Infix::Implies => Formula::Implies(f, g),
+            Infix::Or => Formula::Or(f, g),
+            Infix::And => Formula::And(f, g),
+            Infix::Until => Formula::Until(f, g),
+        })
+    }
+
+    #[cycle(formulas)]
+    fn operand(&self, s: &mut State) -> Result<Formula, Unread>
+        ensures read { Answered (names_of self.now.names.now) (M.Memory.plenty self.now.memory.now) atom (stream_of s.old) (stream_of s.new) result }
+        ensures falls { Falls result (left s.new) (left s.old) }
+    {
+        match s.due()? {
+            Due::True => {
                 s.advance()?;
-                let g = formula(memory, names, s, Level::And)?;
-                f = or(memory, f, g)?;
+                Ok(Formula::True)
             }
-            Ok(f)
-        }
-        Level::And => {
-            let mut f = until_level(memory, names, s)?;
-            while let Infix::And = s.infix() {
+            Due::False => {
                 s.advance()?;
-                let next = until_level(memory, names, s)?;
-                f = and(memory, f, next)?;
+                Ok(Formula::False)
             }
+            Due::Name(name) => {
+                let g = signal_of(self.names, name).ok_or(s.refusal(ReadingCause::Undeclared))?;
+                s.advance()?;
+                Ok(Formula::Signal(g))
+            }
+            Due::Prefix(op) => {
+                s.advance()?;
+                let f = self.operand(s)?;
+                self.prefixed(op, f)
+            }
+            Due::Open => {
+                s.advance()?;
+                let f = self.formula(s, Infix::Implies)?;
+                close(s)?;
+                Ok(f)
+            }
+        }
+    }
+
+    // A formula in which no operator binds less than this one does.
+    // A match and no closures for the rungs: calls that come back through a closure have no measure.
+    #[cycle(formulas)]
+    fn formula(&self, s: &mut State, op: Infix) -> Result<Formula, Unread>
+        ensures read { Answered (names_of self.now.names.now) (M.Memory.plenty self.now.memory.now) (rung_of op) (stream_of s.old) (stream_of s.new) result }
+        ensures falls { Falls result (left s.new) (left s.old) }
+    {
+        match op {
+            Infix::Implies => self.to_right(s, op),
+            Infix::Or => self.to_left(s, op),
+            Infix::And => self.to_left(s, op),
+            Infix::Until => self.to_right(s, op),
+        }
+    }
+
+    // What stands on the left of this operator.
+    #[cycle(formulas)]
+    fn below(&self, s: &mut State, op: Infix) -> Result<Formula, Unread>
+        ensures read { Answered (names_of self.now.names.now) (M.Memory.plenty self.now.memory.now) (rung_under op) (stream_of s.old) (stream_of s.new) result }
+        ensures falls { Falls result (left s.new) (left s.old) }
+    {
+        match op {
+            Infix::Implies => self.formula(s, Infix::Or),
+            Infix::Or => self.formula(s, Infix::And),
+            Infix::And => self.formula(s, Infix::Until),
+            Infix::Until => self.operand(s),
+        }
+    }
+
+    #[cycle(formulas)]
+    fn to_right(&self, s: &mut State, op: Infix) -> Result<Formula, Unread>
+        requires { to_the_right op ≡ true }
+        ensures read { Answered (names_of self.now.names.now) (M.Memory.plenty self.now.memory.now) (rung_of op) (stream_of s.old) (stream_of s.new) result }
+        ensures falls { Falls result (left s.new) (left s.old) }
+    {
+        let f = self.below(s, op)?;
+        if s.is_at(op) {
+            s.advance()?;
+            let g = self.to_right(s, op)?;
+            self.joined(op, f, g)
+        } else {
             Ok(f)
         }
+    }
+
+    #[cycle(formulas)]
+    fn to_left(&self, s: &mut State, op: Infix) -> Result<Formula, Unread>
+        requires { to_the_right op ≡ false }
+        ensures read { Answered (names_of self.now.names.now) (M.Memory.plenty self.now.memory.now) (rung_of op) (stream_of s.old) (stream_of s.new) result }
+        ensures falls { Falls result (left s.new) (left s.old) }
+    {
+        let mut f = self.below(s, op)?;
+        while s.is_at(op) {
+            s.advance()?;
+            let g = self.below(s, op)?;
+            f = self.joined(op, f, g)?;
+        }
+        Ok(f)
     }
 }
 
@@ -207,14 +168,12 @@ pub fn read<M: Memory>(memory: &M, names: &[Vec<u8>], text: &[u8]) -> Result<For
     ensures { ReadAs (names_of names.now) text.now (M.Memory.plenty memory.now) result }
 {
     let _ = survey(names, text)?;
+    let parser = Parser { memory, names };
     let mut s = State::new(text);
     s.fetch()?;
-    let f = formula(memory, names, &mut s, Level::Implies)?;
+    let f = parser.formula(&mut s, Infix::Implies)?;
     match s.ahead {
         None => Ok(f),
-        Some(p) => Err(Unread::Refused(Fault {
-            cause: ReadingCause::Misfit,
-            place: p.place,
-        })),
+        Some(p) => Err(Unread::Refused(ReadingCause::Misfit.at(p.place))),
     }
 }

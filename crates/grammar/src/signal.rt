@@ -12,8 +12,5 @@ pub(crate) fn signal_of(names: &[Vec<u8>], name: &[u8]) -> Option<u8>
     ensures within { IfSome result (λ g. g < 16) }
 {
     let count = names.len().min(MOST_SIGNALS);
-    match find_name(&names[0..count], name) {
-        Some(g) => Some(g as u8),
-        None => None,
-    }
+    find_name(&names[..count], name).map(|g| g as u8)
 }

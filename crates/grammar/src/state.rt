@@ -1,11 +1,12 @@
 // The state of a reading: the reader, one token of look-ahead and a count.
-ghost use Rattle.std.specs.Prelude.{◌≡◌, ◌≤◌, true, is_some, if◌then◌else◌, Some, None};
+ghost use Rattle.std.specs.Prelude.{◌≡◌, ◌≢◌, ◌≤◌, true, false, is_some, if◌then◌else◌, None};
+ghost use Rattle.faults.specs.declared.causes.ReadingCause.TheVariants.{ManyTokens};
 ghost use Rattle.reading.specs.Tokens.{tok_of};
 ghost use Rattle.grammar.specs.Limits.{is_too_many, tally};
 ghost use Rattle.grammar.specs.Left.{left, Falls};
-ghost use Rattle.grammar.specs.Ahead.{after, stream_of, Fetched, place_of, InfixIs, DueIs};
+ghost use Rattle.grammar.specs.Ahead.{after, stream_of, Fetched, place_of, On, op_rank, infix_tok, infix_rank, InfixIs, DueIs};
 
-use faults::{Fault, ReadingCause};
+use faults::{Cause, Fault, ReadingCause};
 use reading::{Placed, Reader, Token};
 
 const MOST_TOKENS: u32 = 32;
@@ -18,19 +19,13 @@ pub(crate) struct State<'a> {
 }
 
 // How many tokens that are no parenthesis there are with this one, unless it is one too many.
-fn tallied(token: Token, count: u32) -> Option<u32>
-    ensures { result ≡ (if is_too_many (tok_of token.entry) count then None else Some (tally (tok_of token.entry) count)) }
+fn tallied(p: Placed, count: u32) -> Result<u32, Fault<ReadingCause>>
+    ensures { result ≡ (if is_too_many (tok_of p.entry.token) count then Err (record { cause = ManyTokens; place = p.entry.place }) else Ok (tally (tok_of p.entry.token) count)) }
 {
-    match token {
-        Token::Open => Some(count),
-        Token::Close => Some(count),
-        _ => {
-            if count < MOST_TOKENS {
-                Some(count + 1)
-            } else {
-                None
-            }
-        }
+    match p.token {
+        Token::Open | Token::Close => Ok(count),
+        _ if count < MOST_TOKENS => Ok(count + 1),
+        _ => Err(ReadingCause::ManyTokens.at(p.place)),
     }
 }
 
@@ -52,29 +47,11 @@ impl<'a> State<'a> {
         ensures shrinks { left self.new ≤ left self.old }
         ensures falls { is_some self.old.ahead ≡ true → Falls result (left self.new) (left self.old) }
     {
-        match self.reader.next() {
-            Ok(ahead) => match ahead {
-                None => {
-                    self.ahead = None;
-                    Ok(())
-                }
-                Some(p) => match tallied(p.token, self.count) {
-                    Some(count) => {
-                        self.count = count;
-                        self.ahead = Some(p);
-                        Ok(())
-                    }
-                    None => Err(Fault {
-                        cause: ReadingCause::ManyTokens,
-                        place: p.place,
-                    }),
-                },
-            },
-            Err(e) => Err(Fault {
-                cause: ReadingCause::Words(e.cause),
-                place: e.place,
-            }),
+        self.ahead = self.reader.next()?;
+        if let Some(p) = self.ahead {
+            self.count = tallied(p, self.count)?;
         }
+        Ok(())
     }
 
     // Goes past the token that is ahead.
@@ -87,60 +64,65 @@ impl<'a> State<'a> {
         self.fetch()
     }
 
-    // Where the token ahead stands, or the text's length at its end.
-    pub(crate) fn place(&self) -> usize
-        ensures { result ≡ place_of self.now }
+    // A refusal where the token ahead stands, or at the text's end.
+    pub(crate) fn refusal(&self, cause: ReadingCause) -> Fault<ReadingCause>
+        ensures { result ≡ record { cause = cause; place = place_of self.now } }
     {
         match self.ahead {
-            Some(p) => p.place,
-            None => self.reader.text_len(),
+            Some(p) => cause.at(p.place),
+            None => cause.at(self.reader.text_len()),
         }
     }
 
     // Which operator between two operands is ahead.
-    pub(crate) fn infix(&self) -> Infix
+    fn infix(&self) -> Option<Infix>
         ensures { InfixIs self.now result }
     {
-        match self.ahead {
-            None => Infix::Other,
-            Some(p) => match p.token {
-                Token::Implies => Infix::Implies,
-                Token::Or => Infix::Or,
-                Token::And => Infix::And,
-                Token::Until => Infix::Until,
-                _ => Infix::Other,
-            },
+        match self.ahead?.token {
+            Token::Implies => Some(Infix::Implies),
+            Token::Or => Some(Infix::Or),
+            Token::And => Some(Infix::And),
+            Token::Until => Some(Infix::Until),
+            _ => None,
         }
     }
 
+    // Whether this operator is ahead.
+    pub(crate) fn is_at(&self, op: Infix) -> bool
+        ensures yes { result ≡ true → On self.now (infix_tok op) }
+        ensures no { result ≡ false → op_rank (stream_of self.now) ≢ infix_rank op }
+    {
+        self.infix() == Some(op)
+    }
+
     // What is ahead where an operand is due.
-    pub(crate) fn due(&self) -> Due<'a>
+    pub(crate) fn due(&self) -> Result<Due<'a>, Fault<ReadingCause>>
         ensures { DueIs self.now result }
     {
-        match self.ahead {
-            None => Due::End,
-            Some(p) => match p.token {
-                Token::True => Due::True,
-                Token::False => Due::False,
-                Token::Name(w) => Due::Name(w),
-                Token::Not => Due::Prefix(Prefix::Not),
-                Token::Next => Due::Prefix(Prefix::Next),
-                Token::Always => Due::Prefix(Prefix::Always),
-                Token::Eventually => Due::Prefix(Prefix::Eventually),
-                Token::Open => Due::Open,
-                _ => Due::Misfit,
-            },
+        let Some(p) = self.ahead else {
+            return Err(self.refusal(ReadingCause::Unfinished));
+        };
+        match p.token {
+            Token::True => Ok(Due::True),
+            Token::False => Ok(Due::False),
+            Token::Name(w) => Ok(Due::Name(w)),
+            Token::Not => Ok(Due::Prefix(Prefix::Not)),
+            Token::Next => Ok(Due::Prefix(Prefix::Next)),
+            Token::Always => Ok(Due::Prefix(Prefix::Always)),
+            Token::Eventually => Ok(Due::Prefix(Prefix::Eventually)),
+            Token::Open => Ok(Due::Open),
+            _ => Err(self.refusal(ReadingCause::Misfit)),
         }
     }
 }
 
-#[derive(Clone, Copy)]
+// The operators between two operands.
+#[derive(Clone, Copy, PartialEq, Eq)]
 pub(crate) enum Infix {
     Implies,
     Or,
     And,
     Until,
-    Other,
 }
 
 #[derive(Clone, Copy)]
@@ -151,6 +133,7 @@ pub(crate) enum Prefix {
     Eventually,
 }
 
+// How an operand begins.
 #[derive(Clone, Copy)]
 pub(crate) enum Due<'a> {
     True,
@@ -158,6 +141,4 @@ pub(crate) enum Due<'a> {
     Name(&'a [u8]),
     Prefix(Prefix),
     Open,
-    Misfit,
-    End,
 }

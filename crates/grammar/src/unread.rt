@@ -1,8 +1,10 @@
 // Why a text gave no formula.
 ghost use Rattle.std.specs.Prelude.{◌≡◌};
-ghost use Rattle.grammar.specs.declared.unread.Unread.TheVariants.{Refused};
+ghost use Rattle.grammar.specs.Untaken.{book_of_unread};
+ghost use Rattle.grammar.specs.declared.unread.Unread.TheVariants.{Refused, NoMemory};
 
-use faults::{Fault, ReadingCause};
+use faults::{BookCause, Cause, Fault, ReadingCause};
+use std::alloc::AllocError;
 
 #[derive(Clone, Copy)]
 pub enum Unread {
@@ -17,5 +19,25 @@ impl From<Fault<ReadingCause>> for Unread {
 
     fn from(e: Fault<ReadingCause>) -> Unread {
         Unread::Refused(e)
+    }
+}
+
+impl From<AllocError> for Unread {
+    ghost from_gives = { λ _ u. u ≡ NoMemory };
+
+    fn from(_e: AllocError) -> Unread {
+        Unread::NoMemory
+    }
+}
+
+// What a book tells of a text that gave no formula.
+impl From<Unread> for Fault<BookCause> {
+    ghost from_gives = { λ u e. e ≡ book_of_unread u };
+
+    fn from(u: Unread) -> Fault<BookCause> {
+        match u {
+            Unread::Refused(e) => Fault::from(e),
+            Unread::NoMemory => BookCause::NoMemory.at(0),
+        }
     }
 }

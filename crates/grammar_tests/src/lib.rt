@@ -5,7 +5,7 @@
 mod tests {
     use grammar::{Unread, read, survey};
     use logic::Formula;
-    use memory::Memory;
+    use memory::{Memory, NoMemory};
     use std::alloc::{AllocError, Global};
     use std::process::Abort;
     use std::test::Fail;
@@ -187,7 +187,7 @@ mod tests {
     }
 
     fn letter(g: u8) -> &'static str {
-        if g < 17 { LETTERS[g as usize] } else { "?" }
+        LETTERS.get(g as usize).copied().unwrap_or("?")
     }
 
     #[cycle(joined_prefixed_show)]
@@ -242,10 +242,8 @@ mod tests {
                 show(&f, &mut out)?;
                 Ok(out)
             }
-            Err(e) => match e {
-                Unread::Refused(e) => format!(in heap; "{e}"),
-                Unread::NoMemory => String::from_str(heap, "no memory"),
-            },
+            Err(Unread::Refused(e)) => format!(in heap; "{e}"),
+            Err(Unread::NoMemory) => String::from_str(heap, "no memory"),
         }
     }
 
@@ -261,22 +259,23 @@ mod tests {
         Ok(())
     }
 
-    #[test]
-    fn formulas(rt: HostRuntime) -> Result<(), Fail> {
-        let names = letters(rt.alloc(), 3)?;
-        for (text, expected) in FORMULAS {
-            gives(&rt, rt.alloc(), &names, text, expected)?;
+    // Each text of the row gives what stands beside it.
+    fn each_gives(rt: &impl Abort, heap: Global, cases: &[(&str, &str)]) -> Result<(), Fail> {
+        let names = letters(heap, 3)?;
+        for (text, expected) in cases {
+            gives(rt, heap, &names, text, expected)?;
         }
         Ok(())
     }
 
     #[test]
+    fn formulas(rt: HostRuntime) -> Result<(), Fail> {
+        each_gives(&rt, rt.alloc(), &FORMULAS)
+    }
+
+    #[test]
     fn refusals(rt: HostRuntime) -> Result<(), Fail> {
-        let names = letters(rt.alloc(), 3)?;
-        for (text, expected) in REFUSALS {
-            gives(&rt, rt.alloc(), &names, text, expected)?;
-        }
-        Ok(())
+        each_gives(&rt, rt.alloc(), &REFUSALS)
     }
 
     // So many times the first, then the second, then so many times the third.
@@ -336,36 +335,19 @@ mod tests {
         let heap = rt.alloc();
         let names = letters(heap, 3)?;
         for (text, operators, signals) in CONTENTS {
-            match survey(&names, text.as_bytes()) {
-                Ok(found) => {
-                    assert_eq!(rt; found.operators, operators, "{}", text);
-                    let mut out = String::new(heap);
-                    for (g, occurs) in found.signals.iter().enumerate() {
-                        if *occurs && g < 17 {
-                            out.push_str(LETTERS[g])?;
-                        }
-                    }
-                    assert_eq!(rt; out.as_str(), signals, "{}", text);
+            let Ok(found) = survey(&names, text.as_bytes()) else {
+                return Err(Fail::new(text));
+            };
+            assert_eq!(rt; found.operators, operators, "{}", text);
+            let mut out = String::new(heap);
+            for (occurs, letter) in found.signals.iter().zip(LETTERS) {
+                if *occurs {
+                    out.push_str(letter)?;
                 }
-                Err(_) => return Err(Fail::new(text)),
             }
+            assert_eq!(rt; out.as_str(), signals, "{}", text);
         }
         Ok(())
-    }
-
-    // Memory that has none to give.
-    struct Nothing;
-
-    impl Memory for Nothing {
-        ghost plenty = { λ _. ⊥ };
-
-        fn row<T>(&self, _room: usize) -> Result<Vec<T>, AllocError> {
-            Err(AllocError)
-        }
-
-        fn boxed<T: Drop>(&self, _x: T) -> Result<Box<T>, AllocError> {
-            Err(AllocError)
-        }
     }
 
     // Want of memory comes after every other cause.
@@ -374,7 +356,7 @@ mod tests {
         let heap = rt.alloc();
         let names = letters(heap, 3)?;
         for (text, expected) in STARVED {
-            let out = outcome(heap, &Nothing, &names, text.as_bytes())?;
+            let out = outcome(heap, &NoMemory, &names, text.as_bytes())?;
             assert_eq!(rt; out.as_str(), expected, "{}", text);
         }
         Ok(())

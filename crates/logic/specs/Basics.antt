@@ -69,8 +69,3 @@ below n (until f g) = below n f && below n g
 -- what is left of a room once n have taken theirs, if they find it
 abbrev pub spent : ℕ → ℕ → Option ℕ
 spent n room = cond (nat_le n room) (Some (room - n)) None
-
--- one less room, if there is one
-abbrev pub less_by_one : Option ℕ → Option ℕ
-less_by_one (Some left) = spent 1 left
-less_by_one None = None

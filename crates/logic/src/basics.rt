@@ -1,7 +1,7 @@
 // What a formula adds to the basics of a book.
 ghost use Rattle.std.specs.Prelude.{◌≡◌};
 ghost use Rattle.logic.specs.Form.{form_of};
-ghost use Rattle.logic.specs.Basics.{occurs, ops, spent, less_by_one};
+ghost use Rattle.logic.specs.Basics.{occurs, ops, spent};
 
 use super::formula::Formula;
 
@@ -10,16 +10,14 @@ pub fn has_signal(f: &Formula, g: u8) -> bool
     ensures { result ≡ occurs (form_of f.now) g }
 {
     match f {
-        Formula::True => false,
-        Formula::False => false,
+        Formula::True | Formula::False => false,
         Formula::Signal(k) => *k == g,
-        Formula::Not(f) => has_signal(f, g),
-        Formula::Next(f) => has_signal(f, g),
-        Formula::Always(f) => has_signal(f, g),
-        Formula::Eventually(f) => has_signal(f, g),
-        Formula::And(f, h) => has_signal(f, g) || has_signal(h, g),
-        Formula::Or(f, h) => has_signal(f, g) || has_signal(h, g),
-        Formula::Implies(f, h) => has_signal(f, g) || has_signal(h, g),
+        Formula::Not(f) | Formula::Next(f) | Formula::Always(f) | Formula::Eventually(f) => {
+            has_signal(f, g)
+        }
+        Formula::And(f, h) | Formula::Or(f, h) | Formula::Implies(f, h) => {
+            has_signal(f, g) || has_signal(h, g)
+        }
         Formula::Until(f, h) => has_signal(f, g) || has_signal(h, g),
     }
 }
@@ -29,38 +27,13 @@ pub fn room_after(f: &Formula, room: u32) -> Option<u32>
     ensures { result ≡ spent (ops (form_of f.now)) room }
 {
     match f {
-        Formula::True => Some(room),
-        Formula::False => Some(room),
-        Formula::Signal(_) => Some(room),
+        Formula::True | Formula::False | Formula::Signal(_) => Some(room),
         Formula::Not(f) => room_after(f, room),
-        Formula::Next(f) => one_less(room_after(f, room)),
-        Formula::Always(f) => one_less(room_after(f, room)),
-        Formula::Eventually(f) => one_less(room_after(f, room)),
-        Formula::And(f, g) => match room_after(f, room) {
-            Some(left) => room_after(g, left),
-            None => None,
-        },
-        Formula::Or(f, g) => match room_after(f, room) {
-            Some(left) => room_after(g, left),
-            None => None,
-        },
-        Formula::Implies(f, g) => match room_after(f, room) {
-            Some(left) => room_after(g, left),
-            None => None,
-        },
-        Formula::Until(f, g) => match room_after(f, room) {
-            Some(left) => one_less(room_after(g, left)),
-            None => None,
-        },
-    }
-}
-
-// One less room.
-fn one_less(room: Option<u32>) -> Option<u32>
-    ensures { result ≡ less_by_one room }
-{
-    match room {
-        Some(left) => left.checked_sub(1),
-        None => None,
+        Formula::Next(f) => room_after(f, room)?.checked_sub(1),
+        Formula::Always(f) | Formula::Eventually(f) => room_after(f, room)?.checked_sub(1),
+        Formula::And(f, g) | Formula::Or(f, g) | Formula::Implies(f, g) => {
+            room_after(g, room_after(f, room)?)
+        }
+        Formula::Until(f, g) => room_after(g, room_after(f, room)?)?.checked_sub(1),
     }
 }

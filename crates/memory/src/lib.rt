@@ -1,9 +1,9 @@
 // Where memory comes from. A refusal for want of memory is honest: under plenty none is given.
 #![tactic(auto)]
 
-ghost use Rattle.std.specs.Prelude.{◌≡◌, ◌≤◌, true, [], is_ok, IfOk, vec_len, vec_capacity};
+ghost use Rattle.std.specs.Prelude.{◌≡◌, ◌≤◌, true, false, [], is_ok, IfOk, vec_len, vec_capacity};
 
-use std::alloc::{AllocError, AllocFailed, Global};
+use std::alloc::{AllocError, Global};
 
 pub trait Memory {
     // There is memory for all that is asked for.
@@ -28,10 +28,32 @@ impl Memory for Global {
     }
 
     fn boxed<T: Drop>(&self, x: T) -> Result<Box<T>, AllocError> {
-        match Box::new(*self, x) {
-            Ok(b) => Ok(b),
-            Err(_) => Err(AllocError),
-        }
+        Ok(Box::new(*self, x)?)
+    }
+}
+
+// A memory that has none: for trying what is refused then.
+#[derive(Clone, Copy)]
+pub struct NoMemory;
+
+impl Memory for NoMemory {
+    ghost plenty = { λ _. ⊥ };
+
+    fn row<T>(&self, _room: usize) -> Result<Vec<T>, AllocError>
+        ensures empty { IfOk result (λ v. (v.items ≡ []) × (vec_len v ≡ 0) × (_room ≤ vec_capacity v)) }
+        ensures honest { ⊥ → is_ok result ≡ true }
+        ensures none { is_ok result ≡ false }
+    {
+        Err(AllocError)
+    }
+
+    fn boxed<T: Drop>(&self, x: T) -> Result<Box<T>, AllocError>
+        ensures holds { IfOk result (λ b. b.value ≡ x) }
+        ensures honest { ⊥ → is_ok result ≡ true }
+        ensures none { is_ok result ≡ false }
+    {
+        let _ = x;
+        Err(AllocError)
     }
 }
 

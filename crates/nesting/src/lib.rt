@@ -12,12 +12,7 @@ use plant::Plant;
 pub fn first_start<P: Plant>(p: &P) -> Option<u32>
     ensures { Least (P.Plant.meaning p.now).start 0 result }
 {
-    for s in 0..p.states() {
-        if p.is_start(s) {
-            return Some(s);
-        }
-    }
-    None
+    (0..p.states()).find(|s| p.is_start(*s))
 }
 
 // The smallest start of a joint of a joint.

@@ -1,2 +1,5 @@
 pub mod Lassos
 pub mod Shown
+pub mod Onward
+pub mod Asking
+pub mod Ordered

@@ -6,3 +6,4 @@ pub mod Path
 pub mod PathLawful
 pub mod Walks
 pub mod Lasso
+pub mod Steps

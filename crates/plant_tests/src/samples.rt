@@ -11,6 +11,7 @@ pub(crate) fn state(start: bool, fulfils: u32, marks: u32) -> StateRow {
     }
 }
 
+// Written in each test crate: a shared one would be a public function for tests alone.
 pub(crate) fn edge(from: u32, to: u32) -> EdgeRow {
     EdgeRow { from, to }
 }
@@ -30,22 +31,16 @@ pub(crate) fn sizes<P: Plant>(p: &P) -> (bool, u32, u32) {
 
 // Of a state s and a state t, whether s should be a start, its smallest step at or above t, and its mark word.
 pub(crate) fn sees<P: Plant>(p: &P, states: &[(u32, u32, bool, Option<u32>, u32)]) -> bool {
-    for (s, t, start, step, marks) in states {
-        if p.is_start(*s) != *start || p.next_step(*s, *t) != *step || p.marks(*s) != *marks {
-            return false;
-        }
-    }
-    true
+    states.iter().all(|(s, t, start, step, marks)| {
+        p.is_start(*s) == *start && p.next_step(*s, *t) == *step && p.marks(*s) == *marks
+    })
 }
 
 // Of a state and a promise, whether it should fulfil it.
 pub(crate) fn keeps<P: Plant>(p: &P, promises: &[(u32, u32, bool)]) -> bool {
-    for (s, k, fulfils) in promises {
-        if p.fulfils(*s, *k) != *fulfils {
-            return false;
-        }
-    }
-    true
+    promises
+        .iter()
+        .all(|(s, k, fulfils)| p.fulfils(*s, *k) == *fulfils)
 }
 
 // The number and the place of a refusal.

@@ -7,11 +7,17 @@ mod walks;
 
 use anyhow::anyhow;
 use joint::join;
+use plant::Plant;
 use protocol::read_input;
-use rows::{Rows, rows_of};
-use show::show;
+use rows::{Rows, Unread, rows_of};
+use show::Shown;
 use table::Table;
 use walks::show_walk;
+
+fn print_plant<P: Plant>(rt: &HostRuntime, name: &str, plant: &P) -> anyhow::Result<()> {
+    print!(rt; "{}", Shown { name, plant })?;
+    Ok(())
+}
 
 fn show_all(rt: &HostRuntime, rows: &Rows) -> anyhow::Result<()> {
     let mut table = Table::new();
@@ -19,14 +25,14 @@ fn show_all(rt: &HostRuntime, rows: &Rows) -> anyhow::Result<()> {
         println!(rt; "{fault}")?;
         return Ok(());
     }
-    show(rt, "table", &table)?;
+    print_plant(rt, "table", &table)?;
     if rows.walk {
         show_walk(rt, "table", &table)?;
     }
     if let Some(probe) = rows.probe {
-        show(rt, "probe", &probe)?;
+        print_plant(rt, "probe", &probe)?;
         let joint = join(&table, &probe);
-        show(rt, "joint", &joint)?;
+        print_plant(rt, "joint", &joint)?;
         if rows.walk {
             show_walk(rt, "joint", &joint)?;
         }
@@ -39,12 +45,13 @@ fn run(rt: &HostRuntime) -> anyhow::Result<()> {
     let Ok(text) = std::str::from_utf8(input.as_slice()) else {
         return Err(anyhow!("the input is no text"));
     };
-    match rows_of(rt.alloc(), text)? {
+    match rows_of(rt.alloc(), text) {
         Ok(rows) => show_all(rt, &rows),
-        Err(line) => {
+        Err(Unread::NoForm(line)) => {
             println!(rt; "line {line} has no known form")?;
             Ok(())
         }
+        Err(Unread::NoMemory(e)) => Err(e.into()),
     }
 }
 

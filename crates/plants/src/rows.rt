@@ -1,6 +1,6 @@
 // The rows of a plant, as text. The format is described in docs/PLANTS.md.
 use plant::{Probe, Value};
-use std::alloc::{AllocError, Global};
+use std::alloc::{AllocError, AllocFailed, Global};
 use table::{EdgeRow, StateRow};
 
 // What the lines of a file say: rows in their order, how many promises there are, and a probe.
@@ -14,6 +14,26 @@ pub struct Rows {
     pub walk: bool,
 }
 
+// Why a text gives no rows.
+#[derive(Drop)]
+pub(crate) enum Unread {
+    // the number of the first line of no known form, counted from 1
+    NoForm(usize),
+    NoMemory(AllocError),
+}
+
+impl From<AllocError> for Unread {
+    fn from(e: AllocError) -> Unread {
+        Unread::NoMemory(e)
+    }
+}
+
+impl<T: Drop> From<AllocFailed<T>> for Unread {
+    fn from(_e: AllocFailed<T>) -> Unread {
+        Unread::NoMemory(AllocError)
+    }
+}
+
 // One line of a file.
 enum Row {
     Promises(u32),
@@ -22,14 +42,30 @@ enum Row {
     Probe(Probe),
     Walk,
     Blank,
-    Unknown,
 }
 
-fn number(word: Option<&str>) -> Option<u32> {
-    match word?.parse::<u32>() {
-        Ok(n) => Some(n),
-        Err(_) => None,
+// What a mark word says of one signal; a load refuses the mark zero.
+#[derive(Clone, Copy)]
+enum Mark {
+    Zero,
+    On,
+    Off,
+    Either,
+}
+
+impl Mark {
+    fn bits(self) -> u32 {
+        match self {
+            Mark::Zero => 0,
+            Mark::On => 1,
+            Mark::Off => 2,
+            Mark::Either => 3,
+        }
     }
+}
+
+fn number(word: &str) -> Option<u32> {
+    word.parse::<u32>().ok()
 }
 
 // Promise numbers parted by commas, or `-`.
@@ -39,27 +75,26 @@ fn fulfilled(word: &str) -> Option<u32> {
         return Some(0);
     }
     for part in word.split(',') {
-        let k = number(Some(part))?;
-        bits |= 1u32.checked_shl(k)?;
+        bits |= 1u32.checked_shl(number(part)?)?;
     }
     Some(bits)
 }
 
 // The mark word with the mark of one signal put in.
-fn with_mark(word: u32, signal: u32, mark: u32) -> Option<u32> {
+fn with_mark(word: u32, signal: u32, mark: Mark) -> Option<u32> {
     if signal > 15 {
         return None;
     }
     let at = 2 * signal;
-    Some(word & !(3u32 << at) | mark << at)
+    Some(word & !(3u32 << at) | mark.bits() << at)
 }
 
-fn mark_of(word: &str) -> Option<u32> {
+fn mark_of(word: &str) -> Option<Mark> {
     match word {
-        "on" => Some(1),
-        "off" => Some(2),
-        "either" => Some(3),
-        "zero" => Some(0),
+        "on" => Some(Mark::On),
+        "off" => Some(Mark::Off),
+        "either" => Some(Mark::Either),
+        "zero" => Some(Mark::Zero),
         _ => None,
     }
 }
@@ -72,102 +107,105 @@ fn marked(word: &str) -> Option<u32> {
     }
     for part in word.split(',') {
         let (signal, mark) = part.split_once('=')?;
-        marks = with_mark(marks, number(Some(signal))?, mark_of(mark)?)?;
+        marks = with_mark(marks, number(signal)?, mark_of(mark)?)?;
     }
     Some(marks)
 }
 
-fn state(start: Option<&str>, fulfils: Option<&str>, marks: Option<&str>) -> Option<StateRow> {
-    let start = match start? {
-        "start" => true,
-        "-" => false,
-        _ => {
-            return None;
-        }
-    };
+fn start_of(word: &str) -> Option<bool> {
+    match word {
+        "start" => Some(true),
+        "-" => Some(false),
+        _ => None,
+    }
+}
+
+fn value_of(word: &str) -> Option<Value> {
+    match word {
+        "on" => Some(Value::On),
+        "off" => Some(Value::Off),
+        _ => None,
+    }
+}
+
+fn state(start: &str, fulfils: &str, marks: &str) -> Option<StateRow> {
     Some(StateRow {
-        start,
-        fulfils: fulfilled(fulfils?)?,
-        marks: marked(marks?)?,
+        start: start_of(start)?,
+        fulfils: fulfilled(fulfils)?,
+        marks: marked(marks)?,
     })
 }
 
-fn probe(step: Option<&str>, signal: Option<&str>, value: Option<&str>) -> Option<Probe> {
-    let step = number(step)?;
-    let signal = number(signal)?.min(255) as u8;
-    let value = match value? {
-        "on" => Value::On,
-        "off" => Value::Off,
-        _ => {
-            return None;
-        }
-    };
+fn edge(from: &str, to: &str) -> Option<EdgeRow> {
+    Some(EdgeRow {
+        from: number(from)?,
+        to: number(to)?,
+    })
+}
+
+fn probe(step: &str, signal: &str, value: &str) -> Option<Probe> {
     Some(Probe {
-        step,
-        signal,
-        value,
+        step: number(step)?,
+        signal: number(signal)?.min(255) as u8,
+        value: value_of(value)?,
     })
 }
 
-fn parse_row(line: &str) -> Row {
+// Absent where the line has no known form.
+fn parse_row(line: &str) -> Option<Row> {
     let mut words = line.split_whitespace();
     let Some(first) = words.next() else {
-        return Row::Blank;
+        return Some(Row::Blank);
     };
     let a = words.next();
     let b = words.next();
     let c = words.next();
     match first {
-        "promises" => match number(a) {
-            Some(n) => Row::Promises(n),
-            None => Row::Unknown,
-        },
-        "state" => match state(a, b, c) {
-            Some(s) => Row::State(s),
-            None => Row::Unknown,
-        },
-        "edge" => match (number(a), number(b)) {
-            (Some(from), Some(to)) => Row::Edge(EdgeRow { from, to }),
-            _ => Row::Unknown,
-        },
-        "probe" => match probe(a, b, c) {
-            Some(p) => Row::Probe(p),
-            None => Row::Unknown,
-        },
-        "walk" => Row::Walk,
-        _ => Row::Unknown,
+        "promises" => Some(Row::Promises(number(a?)?)),
+        "state" => Some(Row::State(state(a?, b?, c?)?)),
+        "edge" => Some(Row::Edge(edge(a?, b?)?)),
+        "probe" => Some(Row::Probe(probe(a?, b?, c?)?)),
+        "walk" => Some(Row::Walk),
+        _ => None,
     }
 }
 
-// The rows of a text, or the number of the first line of no known form, counted from 1; or want of memory.
-pub(crate) fn rows_of(heap: Global, text: &str) -> Result<Result<Rows, usize>, AllocError> {
-    let mut rows = Rows {
-        states: Vec::new(heap),
-        edges: Vec::new(heap),
-        promises: 0,
-        probe: None,
-        walk: false,
-    };
-    let mut at = 0usize;
-    for line in text.lines() {
-        at = at.saturating_add(1);
-        match parse_row(line) {
-            Row::Promises(n) => {
-                rows.promises = n;
-            }
-            Row::State(s) => rows.states.push(s)?,
-            Row::Edge(e) => rows.edges.push(e)?,
-            Row::Probe(p) => {
-                rows.probe = Some(p);
-            }
-            Row::Walk => {
-                rows.walk = true;
-            }
-            Row::Blank => {}
-            Row::Unknown => {
-                return Ok(Err(at));
-            }
+impl Rows {
+    fn new(heap: Global) -> Rows {
+        Rows {
+            states: Vec::new(heap),
+            edges: Vec::new(heap),
+            promises: 0,
+            probe: None,
+            walk: false,
         }
     }
-    Ok(Ok(rows))
+
+    fn add(&mut self, row: Row) -> Result<(), AllocError> {
+        match row {
+            Row::Promises(n) => {
+                self.promises = n;
+            }
+            Row::State(s) => self.states.push(s)?,
+            Row::Edge(e) => self.edges.push(e)?,
+            Row::Probe(p) => {
+                self.probe = Some(p);
+            }
+            Row::Walk => {
+                self.walk = true;
+            }
+            Row::Blank => {}
+        }
+        Ok(())
+    }
+}
+
+// The rows of a text.
+pub(crate) fn rows_of(heap: Global, text: &str) -> Result<Rows, Unread> {
+    let mut rows = Rows::new(heap);
+    for (at, line) in text.lines().enumerate() {
+        let row = parse_row(line).ok_or(Unread::NoForm(at.saturating_add(1)))?;
+        rows.add(row)?;
+    }
+    Ok(rows)
 }

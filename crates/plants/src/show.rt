@@ -1,45 +1,53 @@
 // What is printed of a plant.
-use plant::Plant;
-use std::io;
+use plant::{Plant, steps};
+use std::fmt;
 
-// The steps of one state.
-fn show_steps<P: Plant>(rt: &HostRuntime, plant: &P, s: u32) -> io::Result<()> {
-    let mut t = 0u32;
-    for _ in 0..plant.states() {
-        let Some(u) = plant.next_step(s, t) else {
-            break;
-        };
-        print!(rt; " {u}")?;
-        t = u.saturating_add(1);
+// A plant, as it is printed under a name: fitness and sizes, and then each state.
+#[derive(Drop)]
+pub(crate) struct Shown<'a, P> {
+    pub(crate) name: &'a str,
+    pub(crate) plant: &'a P,
+}
+
+impl<P: Plant> fmt::Display for Shown<'_, P> {
+    fn fmt<W: fmt::Write>(&self, f: &mut fmt::Formatter<W>) -> fmt::Result {
+        let name = self.name;
+        if !self.plant.is_fit() {
+            return writeln!(f, "{name}: unfit");
+        }
+        let states = self.plant.states();
+        let promises = self.plant.promises();
+        writeln!(f, "{name}: fit, {states} states, {promises} promises")?;
+        for state in 0..states {
+            let plant = self.plant;
+            write!(f, "{}", StateOf { plant, state })?;
+        }
+        Ok(())
     }
-    Ok(())
 }
 
 // One state: whether it is a start, its steps, the promises that it fulfils, and its mark word.
-fn show_state<P: Plant>(rt: &HostRuntime, plant: &P, s: u32) -> io::Result<()> {
-    let start = if plant.is_start(s) { " start" } else { "" };
-    print!(rt; "  {s}{start} steps")?;
-    show_steps(rt, plant, s)?;
-    print!(rt; " fulfils")?;
-    for k in 0..plant.promises() {
-        if plant.fulfils(s, k) {
-            print!(rt; " {k}")?;
-        }
-    }
-    let marks = plant.marks(s);
-    println!(rt; " marks {marks:08x}")
+#[derive(Drop)]
+struct StateOf<'a, P> {
+    plant: &'a P,
+    state: u32,
 }
 
-// Fitness and sizes, and then each state.
-pub(crate) fn show<P: Plant>(rt: &HostRuntime, name: &str, plant: &P) -> io::Result<()> {
-    if !plant.is_fit() {
-        return println!(rt; "{name}: unfit");
+impl<P: Plant> fmt::Display for StateOf<'_, P> {
+    fn fmt<W: fmt::Write>(&self, f: &mut fmt::Formatter<W>) -> fmt::Result {
+        let s = self.state;
+        let start = if self.plant.is_start(s) { " start" } else { "" };
+        write!(f, "  {s}{start} steps")?;
+        for u in steps(self.plant, s) {
+            write!(f, " {u}")?;
+        }
+        write!(f, " fulfils")?;
+        for k in 0..self.plant.promises() {
+            if self.plant.fulfils(s, k) {
+                write!(f, " {k}")?;
+            }
+        }
+        let marks = self.plant.marks(s);
+        writeln!(f, " marks {marks:08x}")
     }
-    let states = plant.states();
-    let promises = plant.promises();
-    println!(rt; "{name}: fit, {states} states, {promises} promises")?;
-    for s in 0..states {
-        show_state(rt, plant, s)?;
-    }
-    Ok(())
 }

@@ -4,16 +4,6 @@ use Rattle.reading.specs.Tokens.{Tok}
 use Rattle.reading.specs.Rows.{Row, more}
 use Rattle.protocol.specs.Listings.{token_line, listed}
 
-regroup : (o p sp word name nl : List ℕ) → (((o ++ (p ++ sp)) ++ word) ++ name) ++ nl ≡ o ++ (p ++ (sp ++ ((word ++ name) ++ nl)))
-regroup o p sp word name nl = simp append_assoc
-
--- four parts, one after another
-pub four_parts : (o front word name nl p sp k : List ℕ) {a b c d : List ℕ} → front ≡ p ++ sp → word ++ name ≡ k → a ≡ o ++ front → b ≡ a ++ word → c ≡ b ++ name → d ≡ c ++ nl → d ≡ o ++ (p ++ (sp ++ (k ++ nl)))
-four_parts o front word name nl p sp k f g e₁ e₂ e₃ e₄ =
-    e₄ ∙ ap (λ (x : List ℕ). x ++ nl) (e₃ ∙ ap (λ (x : List ℕ). x ++ name) (e₂ ∙ ap (λ (x : List ℕ). x ++ word) (e₁ ∙ ap (λ (x : List ℕ). o ++ x) f)))
-    ∙ regroup o p sp word name nl
-    ∙ ap (λ (x : List ℕ). o ++ (p ++ (sp ++ (x ++ nl)))) g
-
 -- the listing goes on by one token
 pub one_more : (o : List ℕ) (t : Tok) (p : ℕ) {s u : Row} {out all : List ℕ} → s ≡ more t p u → out ≡ o ++ token_line t p → o ++ listed s ≡ all → out ++ listed u ≡ all
 one_more o t p {u = u} e f inv = ap (λ (x : List ℕ). x ++ listed u) f ∙ append_assoc o (token_line t p) (listed u) ∙ sym (ap (λ (x : Row). o ++ listed x) e) ∙ inv

@@ -1,4 +1,3 @@
-pub mod Prefixes
 pub mod Cutting
 pub mod Growing
 pub mod Digits

@@ -3,7 +3,7 @@ use Rattle.std.specs.Prelude.{ℕ, Bool, cond, not, List, length, take, drop, So
 use Rattle.std.specs.List.{prefix_len}
 use Rattle.std.specs.Str.{bytes_eq}
 use Rattle.protocol.specs.declared.forms.Line.{Line}
-use Rattle.protocol.specs.declared.forms.Line.TheVariants.{Signal, Rule, Drop, Unknown}
+use Rattle.protocol.specs.declared.forms.Line.TheVariants.{Signal, Rule, Drop}
 use Rattle.protocol.specs.Numbers.{numbered}
 
 -- what follows these bytes, if the line begins with them
@@ -61,8 +61,8 @@ signals None line = rules (past (codes "rule ") line) line
 abbrev pub asked : List ℕ → Asked
 asked line = signals (past (codes "signal ") line) line
 
-abbrev pub asked_of : Line → Asked
-asked_of (Signal w) = signal w.now
-asked_of (Rule i t) = rule i t.now
-asked_of (Drop i) = drop_rule i
-asked_of Unknown = unknown
+abbrev pub asked_of : Option Line → Asked
+asked_of (Some (Signal w)) = signal w.now
+asked_of (Some (Rule i t)) = rule i t.now
+asked_of (Some (Drop i)) = drop_rule i
+asked_of None = unknown

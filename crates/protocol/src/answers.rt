@@ -6,19 +6,17 @@ use faults::{ConsoleCause, Fault};
 use std::alloc::{AllocError, Global};
 use std::fmt;
 
+// That the call was granted, or its refusal.
 #[derive(Clone, Copy)]
-pub enum Answer {
-    Ok,
-    Refused(Fault<ConsoleCause>),
-}
+pub struct Answer(pub Result<(), Fault<ConsoleCause>>);
 
 impl fmt::Display for Answer {
     ghost output = { λ a. Some (text_of_answer a) };
 
     fn fmt<W: fmt::Write>(&self, f: &mut fmt::Formatter<W>) -> fmt::Result {
-        match self {
-            Answer::Ok => write!(f, "ok"),
-            Answer::Refused(fault) => write!(f, "{fault}"),
+        match self.0 {
+            Ok(_) => write!(f, "ok"),
+            Err(fault) => write!(f, "{fault}"),
         }
     }
 }

@@ -2,10 +2,10 @@
 ghost use Rattle.std.specs.Prelude.{◌≡◌};
 ghost use Rattle.std.specs.Option.{option_map};
 ghost use Rattle.protocol.specs.Numbers.{numbered};
-ghost use Rattle.protocol.specs.Forms.{not_space, spaceless, past, asked, asked_of, signal_asked, rule_asked, drop_asked};
+ghost use Rattle.protocol.specs.Forms.{spaceless, past, asked, asked_of, signal_asked, rule_asked, drop_asked};
 
 use super::numbers::number_at;
-use reading::{Class, leading_of};
+use reading::leading_of;
 
 pub enum Line<'a> {
     // `signal NAME`
@@ -14,24 +14,12 @@ pub enum Line<'a> {
     Rule(usize, &'a [u8]),
     // `drop SLOT`
     Drop(usize),
-    Unknown,
-}
-
-// Every byte but a space.
-struct NotSpace;
-
-impl Class for NotSpace {
-    ghost test = { λ _. not_space };
-
-    fn has(&self, b: u8) -> bool {
-        b != b' '
-    }
 }
 
 fn is_spaceless(name: &[u8]) -> bool
     ensures { result ≡ spaceless name.now }
 {
-    leading_of(&NotSpace, name) == name.len()
+    leading_of(|b| b != b' ', name) == name.len()
 }
 
 // What follows these bytes, if the line begins with them.
@@ -41,42 +29,37 @@ fn after<'a>(line: &'a [u8], word: &[u8]) -> Option<&'a [u8]>
     line.strip_prefix(word)
 }
 
-fn signal_line<'a>(name: &'a [u8]) -> Line<'a>
+fn signal_line<'a>(name: &'a [u8]) -> Option<Line<'a>>
     ensures { asked_of result ≡ signal_asked name.now }
 {
     if is_spaceless(name) {
-        Line::Signal(name)
+        Some(Line::Signal(name))
     } else {
-        Line::Unknown
+        None
     }
 }
 
-fn rule_line<'a>(rest: &'a [u8]) -> Line<'a>
+fn rule_line<'a>(rest: &'a [u8]) -> Option<Line<'a>>
     ensures { asked_of result ≡ rule_asked (numbered rest.now) }
 {
-    let Some(slot) = number_at(rest) else {
-        return Line::Unknown;
-    };
-    match after(slot.rest, b" ") {
-        Some(text) => Line::Rule(slot.value, text),
-        None => Line::Unknown,
-    }
+    let slot = number_at(rest)?;
+    let text = after(slot.rest, b" ")?;
+    Some(Line::Rule(slot.value, text))
 }
 
-fn drop_line<'a>(rest: &'a [u8]) -> Line<'a>
+fn drop_line<'a>(rest: &'a [u8]) -> Option<Line<'a>>
     ensures { asked_of result ≡ drop_asked (numbered rest.now) }
 {
-    let Some(slot) = number_at(rest) else {
-        return Line::Unknown;
-    };
+    let slot = number_at(rest)?;
     if slot.rest.is_empty() {
-        Line::Drop(slot.value)
+        Some(Line::Drop(slot.value))
     } else {
-        Line::Unknown
+        None
     }
 }
 
-pub fn line_of<'a>(line: &'a [u8]) -> Line<'a>
+// Absent where the line has no known form.
+pub fn line_of<'a>(line: &'a [u8]) -> Option<Line<'a>>
     ensures { asked_of result ≡ asked line.now }
 {
     if let Some(name) = after(line, b"signal ") {
@@ -85,8 +68,5 @@ pub fn line_of<'a>(line: &'a [u8]) -> Line<'a>
     if let Some(rest) = after(line, b"rule ") {
         return rule_line(rest);
     }
-    match after(line, b"drop ") {
-        Some(rest) => drop_line(rest),
-        None => Line::Unknown,
-    }
+    drop_line(after(line, b"drop ")?)
 }

@@ -11,7 +11,7 @@ mod tokens;
 
 pub use answers::{Answer, answer_text};
 pub use forms::{Line, line_of};
-pub use input::{Cut, first_line};
+pub use input::{Cut, Lines, first_line, lines_in};
 pub use responses::respond;
 pub use source::read_input;
 pub use tokens::listing;

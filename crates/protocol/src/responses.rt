@@ -7,20 +7,14 @@ ghost use Rattle.protocol.specs.Responses.{answered, Responds};
 use super::answers::Answer;
 use super::forms::{Line, line_of};
 use book::Book;
-use faults::{BookCause, ConsoleCause, Fault};
+use faults::{BookCause, Cause, ConsoleCause, Fault};
 use memory::Memory;
 
-// `ok`, or the book's refusal, carried whole.
+// The book's answer, its refusal carried whole.
 fn answer<T: Drop>(called: Result<T, Fault<BookCause>>) -> Answer
     ensures { result ≡ answered called }
 {
-    match called {
-        Ok(_) => Answer::Ok,
-        Err(e) => Answer::Refused(Fault {
-            cause: ConsoleCause::Book(e.cause),
-            place: e.place,
-        }),
-    }
+    Answer(called.map(|_| ()).map_err(Fault::from))
 }
 
 // Makes the call that the line asks for.
@@ -28,12 +22,9 @@ pub fn respond<M: Memory>(book: &mut Book, memory: &M, line: &[u8]) -> Answer
     ensures { Responds (M.Memory.plenty memory.now) (state_of book.old) (asked line.now) result (state_of book.new) }
 {
     match line_of(line) {
-        Line::Signal(name) => answer(book.declare(memory, name)),
-        Line::Rule(slot, text) => answer(book.take(memory, slot, text)),
-        Line::Drop(slot) => answer(book.drop_rule(slot)),
-        Line::Unknown => Answer::Refused(Fault {
-            cause: ConsoleCause::NoForm,
-            place: 0,
-        }),
+        Some(Line::Signal(name)) => answer(book.declare(memory, name)),
+        Some(Line::Rule(slot, text)) => answer(book.take(memory, slot, text)),
+        Some(Line::Drop(slot)) => answer(book.drop_rule(slot)),
+        None => Answer(Err(ConsoleCause::NoForm.at(0))),
     }
 }

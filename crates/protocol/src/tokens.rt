@@ -32,12 +32,12 @@ fn kind<'a>(token: Token<'a>) -> (&'static [u8], &'a [u8])
 }
 
 // Writes `PLACE KIND`, a line of its own.
-fn put_token(heap: Global, out: &mut Vec<u8>, placed: Placed) -> Result<(), AllocError>
+fn put_token(out: &mut Vec<u8>, placed: Placed) -> Result<(), AllocError>
     ensures { OnOk result (out.new.items ≡ out.old.items ++ token_line (tok_of placed.entry.token) placed.entry.place) }
 {
     let place = placed.place;
     let (word, name) = kind(placed.token);
-    let front = format!(in heap; "{place} ")?;
+    let front = format!(in *out.allocator(); "{place} ")?;
     out.extend_from_slice(front.as_bytes())?;
     out.extend_from_slice(word)?;
     out.extend_from_slice(name)?;
@@ -45,19 +45,19 @@ fn put_token(heap: Global, out: &mut Vec<u8>, placed: Placed) -> Result<(), Allo
     Ok(())
 }
 
-// Writes `LENGTH end`, a line of its own.
-fn put_end(heap: Global, out: &mut Vec<u8>, len: usize) -> Result<(), AllocError>
+// Writes `LENGTH end`, a line of its own. It and the next differ in a format, which is no value that a parameter could carry.
+fn put_end(out: &mut Vec<u8>, len: usize) -> Result<(), AllocError>
     ensures { OnOk result (out.new.items ≡ out.old.items ++ (decimal len ++ codes " end\n")) }
 {
-    let line = format!(in heap; "{len} end\n")?;
+    let line = format!(in *out.allocator(); "{len} end\n")?;
     out.extend_from_slice(line.as_bytes())
 }
 
 // Writes the refusal, a line of its own.
-fn put_fault(heap: Global, out: &mut Vec<u8>, fault: Fault<WordCause>) -> Result<(), AllocError>
+fn put_fault(out: &mut Vec<u8>, fault: Fault<WordCause>) -> Result<(), AllocError>
     ensures { OnOk result (out.new.items ≡ out.old.items ++ (refused_text (word_number fault.cause) fault.place ++ codes "\n")) }
 {
-    let line = format!(in heap; "{fault}\n")?;
+    let line = format!(in *out.allocator(); "{fault}\n")?;
     out.extend_from_slice(line.as_bytes())
 }
 
@@ -69,15 +69,13 @@ pub fn listing(heap: Global, text: &[u8]) -> Result<Vec<u8>, AllocError>
     let mut reader = Reader::new(text);
     loop {
         match reader.next() {
-            Ok(next) => match next {
-                Some(placed) => put_token(heap, &mut out, placed)?,
-                None => {
-                    put_end(heap, &mut out, text.len())?;
-                    return Ok(out);
-                }
-            },
+            Ok(Some(placed)) => put_token(&mut out, placed)?,
+            Ok(None) => {
+                put_end(&mut out, text.len())?;
+                return Ok(out);
+            }
             Err(fault) => {
-                put_fault(heap, &mut out, fault)?;
+                put_fault(&mut out, fault)?;
                 return Ok(out);
             }
         }

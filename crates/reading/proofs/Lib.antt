@@ -1,4 +1,3 @@
-pub mod Whole
 pub mod Lexing
 pub mod Rows
 pub mod Looking

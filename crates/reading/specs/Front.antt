@@ -1,22 +1,27 @@
 -- What the front of a text stands for, token by token. Assumes nothing.
-use Rattle.std.specs.Prelude.{ℕ, ◌<◌, ◌≤◌}
-use Rattle.reading.specs.declared.front.Front.{Front}
-use Rattle.reading.specs.declared.front.Front.TheVariants.{End, Found, Bad}
+use Rattle.std.specs.Prelude.{ℕ, ◌<◌, ◌≤◌, Some, None, Ok, Err, Option, Result}
+use Rattle.faults.specs.declared.causes.WordCause.{WordCause}
+use Rattle.reading.specs.declared.token.Token.{Token}
 use Rattle.reading.specs.Tokens.{Head, nothing, some, bad, tok_of, TokenAt}
 
-abbrev pub front_of : Front → Head
-front_of End = nothing
-front_of (Found t n) = some (tok_of t) n
-front_of (Bad e) = bad e
+-- a word, with its length
+abbrev pub worded : Result (Token × ℕ) WordCause → Head
+worded (Ok p) = some (tok_of p.0) p.1
+worded (Err e) = bad e
+
+abbrev pub front_of : Result (Option (Token × ℕ)) WordCause → Head
+front_of (Ok None) = nothing
+front_of (Ok (Some p)) = some (tok_of p.0) p.1
+front_of (Err e) = bad e
 
 -- a token takes at least one byte, and no more than there are
-abbrev pub Long : Front → ℕ → Type 0
-Long End m = Unit {0}
-Long (Found t n) m = (0 < n) × (n ≤ m)
-Long (Bad e) m = Unit {0}
+abbrev pub Long : Result (Option (Token × ℕ)) WordCause → ℕ → Type 0
+Long (Ok None) m = Unit {0}
+Long (Ok (Some p)) m = (0 < p.1) × (p.1 ≤ m)
+Long (Err e) m = Unit {0}
 
 -- a name found begins where the text does
-abbrev pub Lies : Front → ℕ × ℕ → Type 0
-Lies End a = Unit {0}
-Lies (Found t n) a = TokenAt t a
-Lies (Bad e) a = Unit {0}
+abbrev pub Lies : Result (Option (Token × ℕ)) WordCause → ℕ × ℕ → Type 0
+Lies (Ok None) a = Unit {0}
+Lies (Ok (Some p)) a = TokenAt p.0 a
+Lies (Err e) a = Unit {0}

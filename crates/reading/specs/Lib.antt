@@ -1,5 +1,5 @@
 pub mod Tokens
 pub mod Front
-pub mod Looks
 pub mod Rows
 pub mod Names
+pub mod Classes

@@ -1,10 +1,11 @@
 // What stands at the front of a text.
-ghost use Rattle.std.specs.Prelude.{◌≡◌, length, nat_lt};
+ghost use Rattle.std.specs.Prelude.{◌≡◌, ◌≤◌, length, IfOk};
+ghost use Rattle.std.specs.List.{prefix_len};
 ghost use Rattle.std.specs.Str.{bytes_eq};
-ghost use Rattle.reading.specs.Tokens.{lower_byte, symbol_of, word_of, tok_of, classify, TokenAt};
-ghost use Rattle.reading.specs.Front.{front_of, Long, Lies};
+ghost use Rattle.reading.specs.Tokens.{symbol_of, word, word_byte, word_of, tok_of, classify, TokenAt};
+ghost use Rattle.reading.specs.Front.{front_of, worded, Long, Lies};
 
-use super::classes::{WordByte, leading_of};
+use super::classes::{in_word, leading_of};
 use super::token::Token;
 use faults::WordCause;
 
@@ -29,7 +30,8 @@ pub(crate) fn is(w: &[u8], known: &[u8]) -> bool
     w == known
 }
 
-// The token that a word is: reserved, or a name.
+// The token that a word is: reserved, or a name. A match on the words would say the same, but its last arm is forty
+// cases for the proof.
 fn word_token<'a>(w: &'a [u8]) -> Token<'a>
     ensures what { tok_of result ≡ word_of w.now }
     ensures lies { TokenAt result w.entry.ref_ptr }
@@ -53,48 +55,29 @@ fn word_token<'a>(w: &'a [u8]) -> Token<'a>
     }
 }
 
-fn is_too_long(n: usize) -> bool
-    ensures { result ≡ nat_lt 16 n }
+// The word at the front of a text, with its length.
+fn word_at_front<'a>(tail: &'a [u8]) -> Result<(Token<'a>, usize), WordCause>
+    ensures what { worded result ≡ word tail.now (prefix_len word_byte tail.now) }
+    ensures lies { IfOk result (λ p. TokenAt p.0 tail.entry.ref_ptr) }
+    ensures long { IfOk result (λ p. (p.1 ≡ prefix_len word_byte tail.now) × (p.1 ≤ length tail.now)) }
 {
-    n > LONGEST_WORD
+    let n = leading_of(in_word, tail);
+    if n > LONGEST_WORD {
+        return Err(WordCause::LongWord);
+    }
+    Ok((word_token(&tail[..n]), n))
 }
 
-fn begins_word(b: u8) -> bool
-    ensures { result ≡ lower_byte b }
-{
-    b.is_ascii_lowercase()
-}
-
-// A token goes with its length.
-pub(crate) enum Front<'a> {
-    End,
-    Found(Token<'a>, usize),
-    Bad(WordCause),
-}
-
-// Of a text that begins with no blank.
-pub(crate) fn at_front<'a>(tail: &'a [u8]) -> Front<'a>
+// Of a text that begins with no blank: a token with its length, or absent at the end.
+pub(crate) fn at_front<'a>(tail: &'a [u8]) -> Result<Option<(Token<'a>, usize)>, WordCause>
     ensures what { front_of result ≡ classify tail.now }
     ensures long { Long result (length tail.now) }
     ensures lies { Lies result tail.entry.ref_ptr }
 {
     match tail {
-        [] => Front::End,
-        [b'-', b'>', rest @ ..] => Front::Found(Token::Implies, tail.len() - rest.len()),
-        [b, ..] => {
-            if begins_word(*b) {
-                let n = leading_of(&WordByte, tail);
-                if is_too_long(n) {
-                    Front::Bad(WordCause::LongWord)
-                } else {
-                    Front::Found(word_token(&tail[0..n]), n)
-                }
-            } else {
-                match symbol(*b as char) {
-                    Some(token) => Front::Found(token, 1),
-                    None => Front::Bad(WordCause::NoToken),
-                }
-            }
-        }
+        [] => Ok(None),
+        [b'-', b'>', rest @ ..] => Ok(Some((Token::Implies, tail.len() - rest.len()))),
+        [b, ..] if b.is_ascii_lowercase() => Ok(Some(word_at_front(tail)?)),
+        [b, ..] => Ok(Some((symbol(*b as char).ok_or(WordCause::NoToken)?, 1))),
     }
 }

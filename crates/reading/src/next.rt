@@ -1,20 +1,12 @@
 // One token after another.
-ghost use Rattle.std.specs.Prelude.{◌≡◌, ℕ, ◌≤◌, length};
+ghost use Rattle.std.specs.Prelude.{◌≡◌, length};
 ghost use Rattle.reading.specs.Tokens.{lex, answer_of, Moves, LiesAt};
-ghost use Rattle.reading.specs.Looks.{look_of, LookLies, Passes};
 
-use super::classes::{Blank, leading_of};
-use super::front::{Front, at_front};
+use super::classes::{blank, leading_of};
+use super::front::at_front;
 use super::reader::Reader;
 use super::token::Placed;
-use faults::{Fault, WordCause};
-
-// What the reader sees next: a token goes with where the cursor stands after it.
-enum Look<'a> {
-    End(usize),
-    Found(Placed<'a>, usize),
-    Bad(Fault<WordCause>),
-}
+use faults::{Cause, Fault, WordCause};
 
 impl<'a> Reader<'a> {
     pub fn new(text: &'a [u8]) -> Reader<'a>
@@ -30,21 +22,6 @@ impl<'a> Reader<'a> {
         self.text.len()
     }
 
-    // What stands at the cursor, past blanks.
-    fn look(&self) -> Look<'a>
-        ensures what { look_of result ≡ lex self.now.text.now self.now.at }
-        ensures lies { LookLies result self.now.text.ref_ptr }
-        ensures passes { Passes result self.now.at (length self.now.text.now) }
-    {
-        let text = self.text;
-        let place = self.at + leading_of(&Blank, &text[self.at..]);
-        match at_front(&text[place..]) {
-            Front::End => Look::End(place),
-            Front::Found(token, len) => Look::Found(Placed { token, place }, place + len),
-            Front::Bad(cause) => Look::Bad(Fault { cause, place }),
-        }
-    }
-
     // The next token, or absent at the end.
     pub fn next(&mut self) -> Result<Option<Placed<'a>>, Fault<WordCause>>
         ensures same { self.new.text ≡ self.old.text }
@@ -52,16 +29,18 @@ impl<'a> Reader<'a> {
         ensures lies { LiesAt result self.old.text.ref_ptr }
         ensures moves { Moves result self.old.at self.new.at }
     {
-        match self.look() {
-            Look::End(after) => {
-                self.at = after;
+        let text = self.text;
+        let place = self.at + leading_of(blank, &text[self.at..]);
+        match at_front(&text[place..]) {
+            Ok(None) => {
+                self.at = place;
                 Ok(None)
             }
-            Look::Found(placed, after) => {
-                self.at = after;
-                Ok(Some(placed))
+            Ok(Some((token, len))) => {
+                self.at = place + len;
+                Ok(Some(Placed { token, place }))
             }
-            Look::Bad(fault) => Err(fault),
+            Err(cause) => Err(cause.at(place)),
         }
     }
 }

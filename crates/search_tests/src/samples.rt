@@ -1,6 +1,6 @@
 // Rows of tables, and what a search of a plant comes to.
 use faults::{Cause, Fault, SearchCause};
-use plant::Plant;
+use plant::{Plant, steps};
 use search::{Shape, exists, search};
 use table::{EdgeRow, StateRow};
 
@@ -15,6 +15,7 @@ pub(crate) fn state(start: bool, fulfils: u32) -> StateRow {
     }
 }
 
+// Written in each test crate: a shared one would be a public function for tests alone.
 pub(crate) fn edge(from: u32, to: u32) -> EdgeRow {
     EdgeRow { from, to }
 }
@@ -35,46 +36,31 @@ fn told(fault: Fault<SearchCause>) -> Answer {
 }
 
 fn all(area: &[u32], value: u32) -> bool {
-    for entry in area {
-        if *entry != value {
-            return false;
-        }
-    }
-    true
+    area.iter().all(|entry| *entry == value)
+}
+
+fn steps_to<P: Plant>(plant: &P, s: u32, t: u32) -> bool {
+    steps(plant, s).any(|u| u == t)
 }
 
 fn goes_by_steps<P: Plant>(plant: &P, walk: &[u32]) -> bool {
-    for pair in walk.windows(2) {
-        if plant.next_step(pair[0], pair[1]) != Some(pair[1]) {
-            return false;
-        }
-    }
-    true
+    walk.windows(2)
+        .all(|pair| steps_to(plant, pair[0], pair[1]))
 }
 
 fn is_kept<P: Plant>(plant: &P, lap: &[u32], k: u32) -> bool {
-    for s in lap {
-        if plant.fulfils(*s, k) {
-            return true;
-        }
-    }
-    false
+    lap.iter().any(|s| plant.fulfils(*s, k))
 }
 
 fn keeps_all<P: Plant>(plant: &P, lap: &[u32]) -> bool {
-    for k in 0..plant.promises() {
-        if !is_kept(plant, lap, k) {
-            return false;
-        }
-    }
-    true
+    (0..plant.promises()).all(|k| is_kept(plant, lap, k))
 }
 
 fn closes<P: Plant>(plant: &P, lap: &[u32]) -> bool {
     match lap {
         [] => false,
-        [only] => plant.next_step(*only, *only) == Some(*only),
-        [first, .., last] => plant.next_step(*last, *first) == Some(*first),
+        [only] => steps_to(plant, *only, *only),
+        [first, .., last] => steps_to(plant, *last, *first),
     }
 }
 
@@ -91,7 +77,7 @@ fn is_fair<P: Plant>(plant: &P, walk: &[u32], shape: Shape) -> bool {
         ([first, ..], [base, ..]) => {
             plant.is_start(*first)
                 && match stem {
-                    [.., last] => plant.next_step(*last, *base) == Some(*base),
+                    [.., last] => steps_to(plant, *last, *base),
                     [] => false,
                 }
         }

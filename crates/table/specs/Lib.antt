@@ -3,3 +3,4 @@ pub mod Loads
 pub mod TableLawful
 pub mod Standing
 pub mod StandingLawful
+pub mod Granting

@@ -2,12 +2,11 @@
 ghost use Rattle.std.specs.Prelude.{◌≡◌, true, false, is_ok};
 ghost use Rattle.plant.specs.Unfit.{unfit};
 ghost use Rattle.table.specs.Rows.{table};
-ghost use Rattle.table.specs.Loads.{Granted, Verdict};
+ghost use Rattle.table.specs.Loads.{Verdict};
 ghost use Rattle.table.specs.Standing.{means};
 
-use super::checks::judge;
 use super::rows::{EdgeRow, StateRow};
-use super::table::Table;
+use super::table::{Rows, Table};
 use faults::{Fault, PlantCause};
 
 impl<'a> Table<'a> {
@@ -15,25 +14,7 @@ impl<'a> Table<'a> {
     pub fn new() -> Table<'a>
         ensures { means result ≡ unfit }
     {
-        Table {
-            loaded: false,
-            states: &[],
-            edges: &[],
-            promises: 0,
-        }
-    }
-
-    // A table over rows that a load grants.
-    fn over(states: &'a [StateRow], edges: &'a [EdgeRow], promises: u32) -> Table<'a>
-        requires { Granted states.now edges.now promises }
-        ensures { means result ≡ table states.now edges.now promises }
-    {
-        Table {
-            loaded: true,
-            states,
-            edges,
-            promises,
-        }
+        Table { rows: None }
     }
 
     // A refused load leaves the table as it was.
@@ -47,8 +28,7 @@ impl<'a> Table<'a> {
         ensures granted { is_ok result ≡ true → means self.new ≡ table states.now edges.now promises }
         ensures refused { is_ok result ≡ false → self.new ≡ self.old }
     {
-        judge(states, edges, promises)?;
-        *self = Table::over(states, edges, promises);
+        self.rows = Some(Rows::granted(states, edges, promises)?);
         Ok(())
     }
 }

@@ -1,5 +1,5 @@
 // A walk found in a plant, and its marks written over its states.
-ghost use Rattle.std.specs.Prelude.{◌≡◌, ℕ, ◌≤◌, length};
+ghost use Rattle.std.specs.Prelude.{◌≡◌, length};
 ghost use Rattle.search.specs.Search.{search_cause, Checked, Cleared};
 ghost use Rattle.search.specs.Inner.Entries.{Rewritten};
 ghost use Rattle.verdicts.specs.Marked.{Marked};
@@ -8,13 +8,12 @@ use faults::{Fault, SearchCause};
 use plant::Plant;
 use search::{Shape, search};
 
-// Writes the mark word of each of the first `len` states over it.
-fn write_marks<P: Plant>(plant: &P, sheet: &mut [u32], len: usize)
-    requires { len ≤ length sheet.old }
-    ensures { Rewritten (λ s w. w ≡ (P.Plant.meaning plant.now).marks s) len sheet.old sheet.new }
+// Writes the mark word of each state over it.
+fn write_marks<P: Plant>(plant: &P, walk: &mut [u32])
+    ensures { Rewritten (λ s w. w ≡ (P.Plant.meaning plant.now).marks s) (length walk.old) walk.old walk.new }
 {
-    for i in 0..len {
-        sheet[i] = plant.marks(sheet[i]);
+    for word in walk.iter_mut() {
+        *word = plant.marks(*word);
     }
 }
 
@@ -30,7 +29,7 @@ pub(crate) fn find_marks<P: Plant>(
 {
     let found = search(plant, work, sheet)?;
     if let Some(shape) = found {
-        write_marks(plant, sheet, shape.stem + shape.turn);
+        write_marks(plant, &mut sheet[..shape.stem + shape.turn]);
     }
     Ok(found)
 }

@@ -14,8 +14,3 @@ returns-then-is_whole c =
       at_end names c.args.text.now c.loop-s.s c.loop-s.at c.loop-s.seen sofar c.in_default.is ∙ c.if-is_whole.ensures names (length c.args.text.now),
       tells names c.args.text.now c.loop-s.s c.loop-s.at c.loop-s.seen sofar c.in_default.is,
     )
-
-pub returns-else-is_whole : goal.returns-else-is_whole
-returns-else-is_whole c =
-    let names = names_of c.args.names.now in
-    at_end names c.args.text.now c.loop-s.s c.loop-s.at c.loop-s.seen c.loop-s.invariant c.in_default.is ∙ c.if-is_whole.ensures names (length c.args.text.now)

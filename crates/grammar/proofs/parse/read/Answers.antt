@@ -1,5 +1,8 @@
-use Rattle.std.proofs.Common.{length, ap}
+use Rattle.std.proofs.Common.{length, sym, ap, ◌∙◌}
+use Rattle.faults.specs.declared.causes.ReadingCause.{ReadingCause}
+use Rattle.faults.specs.declared.fault.Fault.{Fault}
 use Rattle.reading.specs.Names.{names_of}
+use Rattle.grammar.specs.Scan.{refusal}
 use Rattle.grammar.specs.Ahead.{ahead_on, after}
 use Rattle.grammar.proofs.Whole.{begun, finished_at, misfit_at}
 use Rattle.grammar.proofs.Unique.{one_formula_lem}
@@ -22,3 +25,4 @@ returns-in-Some g c =
     let u = c.formula.new.s in
     let told = c.in_ok-f.ensures.read in
     misfit_at names c.args.text.now start told.0 _ _ (after u) told.1 (ap (λ o. ahead_on o (length u.reader.text.now) (after u)) c.in-Some.is)
+    ∙ ap (λ (e : Fault ReadingCause). refusal e.cause e.place) (sym c.at.ensures)

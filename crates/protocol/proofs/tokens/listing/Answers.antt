@@ -5,37 +5,37 @@ use Rattle.reading.proofs.Rows.{row_token, row_ends, row_stops}
 use Rattle.protocol.proofs.Growing.{one_more, last}
 use Rattle.protocol.proofs.tokens.listing.Goals as goal
 
-pub loop-next-preserved : goal.loop-next-preserved
-loop-next-preserved c =
+pub loop-placed-preserved : goal.loop-placed-preserved
+loop-placed-preserved c =
     let text = c.args.text.now in
-    let r = c.loop-next.reader in
-    let same = c.loop-next.invariant.0 in
-    let told = c.in-Ok.ensures in
-    let p = c.in-Some.placed in
+    let r = c.loop-placed.reader in
+    let same = c.loop-placed.invariant.0 in
+    let told = c.in-Ok-Some.ensures in
+    let p = c.in-Ok-Some.placed in
     let within : r.at ≤ length text = subst (λ (t : List ℕ). r.at ≤ length t) same r.within in (
       ap (λ t. t.now) told.same ∙ same,
-      one_more (vec_items c.loop-next.out) (tok_of p.token) p.place
-          (row_token text r.at c.next.new.self.at within c.in-Ok.next p c.in-Some.is (told.answer ∙ ap (λ (t : List ℕ). lex t r.at) same))
-          c.in_ok-put_token-in-Some.ensures c.loop-next.invariant.1,
+      one_more (vec_items c.loop-placed.out) (tok_of p.token) p.place
+          (row_token text r.at c.next.new.self.at within c.in-Ok-Some.field-0 p c.in-Ok-Some.field-0-is (told.answer ∙ ap (λ (t : List ℕ). lex t r.at) same))
+          c.in_ok-put_token-in-Ok-Some.ensures c.loop-placed.invariant.1,
     )
 
-pub returns-in-None : goal.returns-in-None
-returns-in-None c =
+pub returns-in-Ok-None : goal.returns-in-Ok-None
+returns-in-Ok-None c =
     let text = c.args.text.now in
-    let r = c.loop-next.reader in
-    let same = c.loop-next.invariant.0 in
+    let r = c.loop-placed.reader in
+    let same = c.loop-placed.invariant.0 in
     let within : r.at ≤ length text = subst (λ (t : List ℕ). r.at ≤ length t) same r.within in
-    last (vec_items c.loop-next.out) (ends (length text))
-    (row_ends text r.at c.next.new.self.at within c.in-Ok.next c.in-None.is (c.in-Ok.ensures.answer ∙ ap (λ (t : List ℕ). lex t r.at) same))
-    c.in_ok-put_end-in-None.ensures c.loop-next.invariant.1
+    last (vec_items c.loop-placed.out) (ends (length text))
+    (row_ends text r.at c.next.new.self.at within c.in-Ok-None.field-0 c.in-Ok-None.field-0-is (c.in-Ok-None.ensures.answer ∙ ap (λ (t : List ℕ). lex t r.at) same))
+    c.in_ok-put_end-in-Ok-None.ensures c.loop-placed.invariant.1
 
 pub returns-in-Err : goal.returns-in-Err
 returns-in-Err c =
     let text = c.args.text.now in
-    let r = c.loop-next.reader in
-    let same = c.loop-next.invariant.0 in
+    let r = c.loop-placed.reader in
+    let same = c.loop-placed.invariant.0 in
     let e = c.in-Err.fault in
     let within : r.at ≤ length text = subst (λ (t : List ℕ). r.at ≤ length t) same r.within in
-    last (vec_items c.loop-next.out) (stops e.cause e.place)
+    last (vec_items c.loop-placed.out) (stops e.cause e.place)
     (row_stops text r.at c.next.new.self.at within e (c.in-Err.ensures.answer ∙ ap (λ (t : List ℕ). lex t r.at) same))
-    c.in_ok-put_fault-in-Err.ensures c.loop-next.invariant.1
+    c.in_ok-put_fault-in-Err.ensures c.loop-placed.invariant.1

@@ -1,9 +1,7 @@
-use Rattle.std.proofs.Common.{◌≡◌, ◌+◌, ◌-◌, ◌≤◌, length, drop}
+use Rattle.std.proofs.Common.{◌≡◌, ℕ, Bool, ◌+◌, drop}
 use Rattle.std.specs.List.{prefix_len}
+use Rattle.reading.specs.Classes.{IsTest}
 use Rattle.reading.proofs.classes.leading_of.Given as goal
 
 abbrev pub invariant-loop-n : goal.invariant-loop-n
-invariant-loop-n g l = (l.n ≤ length l.s) × (l.n + prefix_len (g.C.Class.test l.class) (drop l.n l.s) ≡ prefix_len (g.C.Class.test l.class) l.s)
-
-abbrev pub decreases-loop-n : goal.decreases-loop-n
-decreases-loop-n g l = length l.s - l.n
+invariant-loop-n g l = (test : ℕ → Bool) → IsTest (goal.F-post g l.class) test → l.n + prefix_len test (drop l.n l.s) ≡ prefix_len test l.s
