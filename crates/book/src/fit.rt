@@ -1,5 +1,5 @@
 // Whether the basics of the standing rules and of one more are at most twelve.
-ghost use Rattle.std.specs.Prelude.{◌≡◌, ◌+◌, ◌<◌, false, ◌||◌, nat_le, slice_index_or};
+ghost use Rattle.std.specs.Prelude.{◌≡◌, ◌+◌, ◌<◌, false, ◌||◌, min, nat_le, slice_index_or};
 ghost use Rattle.std.specs.List.{count_by, list_any, range_with_len};
 ghost use Rattle.logic.specs.Basics.{occurs, ops, spent, tally};
 ghost use Rattle.book.specs.Rules.{rule_has, rule_of, rules_of, together};
@@ -51,18 +51,22 @@ fn occurs_with(slots: &[Option<Formula>], seen: &Contents, g: u8) -> bool
     seen.signals[g as usize] || stands_with(slots, g)
 }
 
-// How many signals the standing rules and the new one have.
-fn signals_of(slots: &[Option<Formula>], seen: &Contents) -> usize
-    ensures { result ≡ count_by (λ g. slice_index_or seen.now.signals g false || occurs (together (rules_of slots.now)) g) (range_with_len 0 16) }
+// How many signals the standing rules and the new one have, counted no further than `most`.
+fn signals_of(slots: &[Option<Formula>], seen: &Contents, most: usize) -> usize
+    ensures { result ≡ min most (count_by (λ g. slice_index_or seen.now.signals g false || occurs (together (rules_of slots.now)) g) (range_with_len 0 16)) }
 {
-    (0..16u8).filter(|g| occurs_with(slots, seen, *g)).count()
+    (0..16u8)
+        .filter(|g| occurs_with(slots, seen, *g))
+        .take(most)
+        .count()
 }
 
 // Whether the new signals and those of the standing rules find room.
 fn signals_fit(slots: &[Option<Formula>], seen: &Contents, room: u32) -> bool
     ensures { result ≡ nat_le (tally 16 (λ g. slice_index_or seen.now.signals g false || occurs (together (rules_of slots.now)) g)) room }
 {
-    signals_of(slots, seen) <= room as usize
+    let room = room as usize;
+    signals_of(slots, seen, room + 1) <= room
 }
 
 // Whether the standing rules and one that holds this have at most twelve basics.

@@ -51,25 +51,29 @@ fn graph_of(heap: Global, n: u32, degree: u32) -> Result<Graph, AllocError> {
     Ok(graph)
 }
 
-// Every step of one state: how many there are, and how many next-step questions that took, one more than that.
+// Every step of one state: how many there are.
 fn walk<P: Plant>(plant: &P, s: u32, answer: &mut WalkAnswer) {
-    answer.next_steps = answer.next_steps.saturating_add(1);
     for _ in steps(plant, s) {
         answer.steps = answer.steps.saturating_add(1);
-        answer.next_steps = answer.next_steps.saturating_add(1);
     }
 }
 
-// Walks all steps of the joint of a plant with itself.
+// Walks all steps of the joint of a plant with itself. What the walk asks the joint is counted: it asks for next steps alone.
 fn walk_joint<P: Plant>(part: &P, rounds: u32, answer: &mut WalkAnswer) {
     let both = join(part, part);
     let states = both.states();
     answer.states = states;
+    let asked = Cell::new(0u64);
+    let walked = Counted {
+        plant: &both,
+        asked: &asked,
+    };
     for _ in 0..rounds {
         for s in 0..states {
-            walk(&both, s, answer);
+            walk(&walked, s, answer);
         }
     }
+    answer.next_steps = asked.get();
 }
 
 // The same, with the questions to the parts counted.

@@ -2,10 +2,10 @@
 ghost use Rattle.std.specs.Prelude.{◌≡◌};
 ghost use Rattle.std.specs.Option.{option_map};
 ghost use Rattle.protocol.specs.Numbers.{numbered};
-ghost use Rattle.protocol.specs.Forms.{spaceless, past, asked, asked_of, signal_asked, rule_asked, drop_asked};
+ghost use Rattle.protocol.specs.Forms.{not_space, spaceless, past, asked, asked_of, signal_asked, rule_asked, drop_asked};
 
 use super::numbers::number_at;
-use reading::leading_of;
+use reading::{Class, leading_of};
 
 pub enum Line<'a> {
     // `signal NAME`
@@ -16,10 +16,21 @@ pub enum Line<'a> {
     Drop(usize),
 }
 
+// Every byte but a space.
+struct NotSpace;
+
+impl Class for NotSpace {
+    ghost test = { λ _. not_space };
+
+    fn has(&self, b: u8) -> bool {
+        b != b' '
+    }
+}
+
 fn is_spaceless(name: &[u8]) -> bool
     ensures { result ≡ spaceless name.now }
 {
-    leading_of(|b| b != b' ', name) == name.len()
+    leading_of(&NotSpace, name) == name.len()
 }
 
 // What follows these bytes, if the line begins with them.

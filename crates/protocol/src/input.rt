@@ -1,15 +1,26 @@
 // The lines of an input.
 ghost use Rattle.std.specs.Prelude.{◌≡◌, ◌<◌, length, IfSome};
 ghost use Rattle.std.specs.Iterator.{YieldsFirstRef, item_count};
-ghost use Rattle.protocol.specs.Lines.{Cuts, lines_of};
+ghost use Rattle.protocol.specs.Lines.{in_line, Cuts, lines_of};
 
-use reading::leading_of;
+use reading::{Class, leading_of};
 
 // The first line of an input, without its line feed, and what follows it.
 #[derive(Clone, Copy)]
 pub struct Cut<'a> {
     pub line: &'a [u8],
     pub rest: &'a [u8],
+}
+
+// Every byte but a line feed.
+struct InLine;
+
+impl Class for InLine {
+    ghost test = { λ _. in_line };
+
+    fn has(&self, b: u8) -> bool {
+        b != b'\n'
+    }
 }
 
 // Absent where the input is empty. The input's end ends a line too.
@@ -20,7 +31,7 @@ pub fn first_line<'a>(input: &'a [u8]) -> Option<Cut<'a>>
     if input.is_empty() {
         return None;
     }
-    let n = leading_of(|b| b != b'\n', input);
+    let n = leading_of(&InLine, input);
     Some(Cut {
         line: &input[..n],
         rest: &input[input.len().min(n + 1)..],

@@ -1,10 +1,20 @@
 // Numbers of one to four digits.
 ghost use Rattle.std.specs.Prelude.{◌≡◌, ◌≤◌, length};
-ghost use Rattle.protocol.specs.Numbers.{value_of_digits, numbered, numbered_of};
+ghost use Rattle.protocol.specs.Numbers.{is_digit, value_of_digits, numbered, numbered_of};
 
-use reading::leading_of;
+use reading::{Class, leading_of};
 
 const MOST_DIGITS: usize = 4;
+
+struct Digit;
+
+impl Class for Digit {
+    ghost test = { λ _. is_digit };
+
+    fn has(&self, b: u8) -> bool {
+        b.is_ascii_digit()
+    }
+}
 
 // A number at the front of a text, and what follows it.
 #[derive(Clone, Copy)]
@@ -28,7 +38,7 @@ fn value_of(digits: &[u8]) -> usize
 pub(crate) fn number_at<'a>(text: &'a [u8]) -> Option<Numbered<'a>>
     ensures { numbered_of result ≡ numbered text.now }
 {
-    let n = leading_of(|b| b.is_ascii_digit(), text);
+    let n = leading_of(&Digit, text);
     if n == 0 || n > MOST_DIGITS {
         return None;
     }

@@ -2,4 +2,3 @@ pub mod Tokens
 pub mod Front
 pub mod Rows
 pub mod Names
-pub mod Classes

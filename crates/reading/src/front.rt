@@ -5,7 +5,7 @@ ghost use Rattle.std.specs.Str.{bytes_eq};
 ghost use Rattle.reading.specs.Tokens.{symbol_of, word, word_byte, word_of, tok_of, classify, TokenAt};
 ghost use Rattle.reading.specs.Front.{front_of, worded, Long, Lies};
 
-use super::classes::{in_word, leading_of};
+use super::classes::{WordByte, leading_of};
 use super::token::Token;
 use faults::WordCause;
 
@@ -61,7 +61,7 @@ fn word_at_front<'a>(tail: &'a [u8]) -> Result<(Token<'a>, usize), WordCause>
     ensures lies { IfOk result (λ p. TokenAt p.0 tail.entry.ref_ptr) }
     ensures long { IfOk result (λ p. (p.1 ≡ prefix_len word_byte tail.now) × (p.1 ≤ length tail.now)) }
 {
-    let n = leading_of(in_word, tail);
+    let n = leading_of(&WordByte, tail);
     if n > LONGEST_WORD {
         return Err(WordCause::LongWord);
     }

@@ -8,7 +8,7 @@ mod next;
 mod reader;
 mod token;
 
-pub use classes::leading_of;
+pub use classes::{Class, leading_of};
 pub use names::find_name;
 pub use reader::Reader;
 pub use token::{Placed, Token};

@@ -2,7 +2,7 @@
 ghost use Rattle.std.specs.Prelude.{◌≡◌, length};
 ghost use Rattle.reading.specs.Tokens.{lex, answer_of, Moves, LiesAt};
 
-use super::classes::{blank, leading_of};
+use super::classes::{Blank, leading_of};
 use super::front::at_front;
 use super::reader::Reader;
 use super::token::Placed;
@@ -30,7 +30,7 @@ impl<'a> Reader<'a> {
         ensures moves { Moves result self.old.at self.new.at }
     {
         let text = self.text;
-        let place = self.at + leading_of(blank, &text[self.at..]);
+        let place = self.at + leading_of(&Blank, &text[self.at..]);
         match at_front(&text[place..]) {
             Ok(None) => {
                 self.at = place;

@@ -1,6 +1,6 @@
 // Rows of tables, and what a search of a plant comes to.
 use faults::{Cause, Fault, SearchCause};
-use plant::{Plant, steps};
+use plant::Plant;
 use search::{Shape, exists, search};
 use table::{EdgeRow, StateRow};
 
@@ -39,8 +39,9 @@ fn all(area: &[u32], value: u32) -> bool {
     area.iter().all(|entry| *entry == value)
 }
 
+// Asked of the plant itself, since the search goes by `steps`.
 fn steps_to<P: Plant>(plant: &P, s: u32, t: u32) -> bool {
-    steps(plant, s).any(|u| u == t)
+    plant.next_step(s, t) == Some(t)
 }
 
 fn goes_by_steps<P: Plant>(plant: &P, walk: &[u32]) -> bool {
