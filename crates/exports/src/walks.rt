@@ -40,15 +40,30 @@ fn edge_row(from: u32, k: u32, n: u32) -> EdgeRow {
     EdgeRow { from, to }
 }
 
-fn graph_of(heap: Global, n: u32, degree: u32) -> Result<Graph, AllocError> {
-    let mut graph = Graph::new(heap);
+fn state_rows(heap: Global, n: u32) -> Result<Vec<StateRow>, AllocError> {
+    let mut rows = Vec::new(heap);
     for s in 0..n {
-        graph.states.push(state_row(s))?;
+        rows.push(state_row(s))?;
+    }
+    Ok(rows)
+}
+
+fn edge_rows(heap: Global, n: u32, degree: u32) -> Result<Vec<EdgeRow>, AllocError> {
+    let mut rows = Vec::new(heap);
+    for from in 0..n {
         for k in 0..degree {
-            graph.edges.push(edge_row(s, k, n))?;
+            rows.push(edge_row(from, k, n))?;
         }
     }
-    Ok(graph)
+    Ok(rows)
+}
+
+// One row after the other: to fill both in turns took more than twice the time.
+fn graph_of(heap: Global, n: u32, degree: u32) -> Result<Graph, AllocError> {
+    Ok(Graph {
+        states: state_rows(heap, n)?,
+        edges: edge_rows(heap, n, degree)?,
+    })
 }
 
 // Every step of one state: how many there are.
