@@ -58,7 +58,7 @@ fn edge_rows(heap: Global, n: u32, degree: u32) -> Result<Vec<EdgeRow>, AllocErr
     Ok(rows)
 }
 
-// One row after the other: to fill both in turns took more than twice the time.
+// One row after the other: to fill both in turns took up to two and a half times as long.
 fn graph_of(heap: Global, n: u32, degree: u32) -> Result<Graph, AllocError> {
     Ok(Graph {
         states: state_rows(heap, n)?,
